@@ -1,23 +1,23 @@
 -- `sweep::passes::strip` meets its contract. Assumes nothing.
 use native.Mathlib.Omega.{arith}
 use mathlib.Core.Path.{◌≡◌, refl, ap, ◌∙◌}
+use mathlib.Core.List.{List, ◌++◌}
 use Prim.Native.Nat.{ℕ, ◌%◌}
-use lib.ListN.{get_or, length-set}
+use lib.ListN.{get_or, take, drop}
+use lib.Seq.{length-take-le}
 use Rattle.sweep.specs.Passes.{lows}
-use Rattle.sweep.proofs.Packs.{edits}
+use Rattle.sweep.proofs.Packs.{edits, edited-front}
 use Rattle.sweep.proofs.passes.strip.Goals as goal
 
-pub loop-i-init : goal.loop-i-init
-loop-i-init c = (omega arith, refl, refl)
+pub loop-w-init : goal.loop-w-init
+loop-w-init c = refl
 
-pub loop-i-preserved : goal.loop-i-preserved
-loop-i-preserved c =
-    (omega (arith, c.loop-i-test.true), length-set c.loop-i.order _ _ ∙ c.loop-i.invariant.1, edits (λ i w. w % 65536) c.args.order.now c.loop-i.order c.loop-i.i (get_or c.loop-i.order c.loop-i.i 0 % 65536) c.loop-i.invariant.2 refl)
-
-pub shape_of-order : goal.shape_of-order
-shape_of-order c = c.loop-i.invariant.1
+pub loop-w-preserved : goal.loop-w-preserved
+loop-w-preserved c =
+    edits (λ i w. w % 65536) (take c.args.used c.args.order.now) c.loop-w.w-items c.loop-w.w-index (get_or c.loop-w.w-items c.loop-w.w-index 0 % 65536) c.loop-w.invariant refl
 
 pub returns : goal.returns
 returns c =
-    let e : c.loop-i.i ≡ c.args.used = omega (arith, c.loop-i-test.false) in
-    c.loop-i.invariant.2 ∙ ap (λ (n : ℕ). lows n c.args.order.now) e
+    let e : c.loop-w.w-index ≡ c.args.used = omega (arith, length-take-le c.args.used c.args.order.now c.requires, c.loop-w-test.false, c.loop-w.auto.w-index-end) in
+    ap (λ (t : List ℕ). t ++ drop c.args.used c.args.order.now) (c.loop-w.invariant ∙ ap (λ (n : ℕ). lows n (take c.args.used c.args.order.now)) e)
+    ∙ edited-front (λ i w. w % 65536) c.args.order.now c.args.used c.args.used c.requires (omega arith)

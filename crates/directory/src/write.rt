@@ -9,10 +9,8 @@ fn insert(order: &mut [u32], used: usize, at: usize, slot: u32)
     requires { (at ≤ used) × (used < length order.old) }
     ensures { order.new ≡ inserted order.old used at slot }
 {
-    let mut i = used;
-    while i > at {
-        order[i] = order[i - 1];
-        i -= 1;
+    for i in (at..used).rev() {
+        order[i + 1] = order[i];
     }
     order[at] = slot;
 }

@@ -1,33 +1,21 @@
 -- `directory::write::insert` meets its contract. Assumes nothing.
-use Rattle.std.proofs.Common.{◌≡◌, ℕ, ◌-◌, List, get_or, set, refl, ap, ◌∙◌, arith, length-set}
+use Rattle.std.proofs.Common.{◌≡◌, ℕ, ◌+◌, ◌-◌, List, get_or, set, refl, ap, ◌∙◌, arith, length-set}
 use Rattle.sets.proofs.Moved.{moved, start, turn, finish}
 use Rattle.directory.proofs.write.insert.Goals as goal
 
--- src/lib.rt:12:5
 pub loop-i-init : goal.loop-i-init
 loop-i-init c =
     (omega arith, omega arith, refl, start c.args.order.now c.args.used c.requires.1)
 
--- src/lib.rt:13:26
--- src/lib.rt:13:20
--- src/lib.rt:13:20
--- src/lib.rt:13:9
--- src/lib.rt:13:9
--- src/lib.rt:14:9
--- src/lib.rt:12:5
--- src/lib.rt:12:5
 pub loop-i-preserved : goal.loop-i-preserved
 loop-i-preserved c =
-    (omega arith, omega arith, length-set c.loop-i.order c.loop-i.i _ ∙ c.loop-i.invariant.2, ap (λ (o : List ℕ). set o c.loop-i.i (get_or o (c.loop-i.i - 1) 0)) c.loop-i.invariant.3 ∙ turn c.args.order.now c.args.used c.requires.1 c.loop-i.i (omega arith) c.loop-i.invariant.1)
+    let e : c.loop-i.i - 1 + 1 ≡ c.loop-i.i = omega arith in
+    (omega arith, omega arith, length-set c.loop-i.order (c.loop-i.i - 1 + 1) _ ∙ c.loop-i.invariant.2, ap (λ (k : ℕ). set c.loop-i.order k (get_or c.loop-i.order (c.loop-i.i - 1) 0)) e ∙ ap (λ (o : List ℕ). set o c.loop-i.i (get_or o (c.loop-i.i - 1) 0)) c.loop-i.invariant.3 ∙ turn c.args.order.now c.args.used c.requires.1 c.loop-i.i (omega arith) c.loop-i.invariant.1)
 
--- src/lib.rt:16:5
--- src/lib.rt:16:5
--- src/lib.rt:7:1
 pub shape_of-order : goal.shape_of-order
 shape_of-order c =
     length-set c.loop-i.order _ _ ∙ c.loop-i.invariant.2
 
--- src/lib.rt:7:1
 pub returns : goal.returns
 returns c =
     let e : c.loop-i.i ≡ c.args.at = omega arith in

@@ -47,5 +47,5 @@ pub extern "C" fn agreed_measure_all_by(
     let next = got.dir;
     state[0] = map_words::words_of(next);
     taken[0] = got.taken as u64;
-    got.no as u64
+    refusals::code(got.end) as u64
 }

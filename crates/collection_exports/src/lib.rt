@@ -7,31 +7,32 @@ ghost use Rattle.directory.specs.View.{stores};
 ghost use Rattle.exponential_slots.specs.Cells.{cells};
 ghost use Rattle.value_map.specs.Calls.{held};
 ghost use Rattle.listing.specs.Listed.{output};
-ghost use Rattle.collecting.specs.Collected.{said, delta_collected, cumulative_collected};
+ghost use Rattle.refusals.specs.Refusals.{said};
+ghost use Rattle.collecting.specs.Collected.{delta_collected, cumulative_collected};
 ghost use Rattle.exponential_collection.specs.Points.{exponential_lister};
 ghost use Rattle.map_words.specs.Words.{state_of};
 ghost use Rattle.collection_exports.specs.Words.{points_in, listed, listed_out, handed, handed_out};
 
-use collecting::Answer;
 use exponential_collection::Settings;
+use refusals::Refusal;
 
 // Document 01's number of an answer.
-fn number_of(answer: Answer) -> u64
+fn number_of(answer: Result<usize, Refusal>) -> u64
     ensures { result ≡ number (said answer) }
 {
     match answer {
-        Answer::Refused(no) => no as u64,
-        Answer::Listed(_) => 0,
+        Err(e) => e.number() as u64,
+        Ok(_) => 0,
     }
 }
 
 // How many points an answer tells of.
-fn points_of(answer: Answer) -> u64
+fn points_of(answer: Result<usize, Refusal>) -> u64
     ensures { result ≡ points_in (said answer) }
 {
     match answer {
-        Answer::Refused(_) => 0,
-        Answer::Listed(n) => n as u64,
+        Err(_) => 0,
+        Ok(n) => n as u64,
     }
 }
 

@@ -2,20 +2,18 @@
 #![tactic(auto)]
 
 ghost use Rattle.std.specs.Prelude.{◌≡◌, min};
-ghost use Rattle.exponential.specs.Series.{said};
+ghost use Rattle.refusals.specs.Refusals.{said};
 ghost use Rattle.exponential.specs.Inner.{head_after};
 ghost use Rattle.exports.specs.Exports.{recorded};
 
-use exponential::{Answer, Head};
+use exponential::Head;
+use refusals::Refusal;
 
 // The head that a call leaves: a refused one leaves the old.
-fn head_after(answer: Answer, old: Head) -> Head
+fn head_after(answer: Result<Head, Refusal>, old: Head) -> Head
     ensures { result ≡ head_after (said answer) old }
 {
-    match answer {
-        Answer::Recorded(h) => h,
-        Answer::Refused(no) => old,
-    }
+    answer.unwrap_or(old)
 }
 
 fn count_of(head: Head) -> u64
@@ -29,7 +27,7 @@ fn count_of(head: Head) -> u64
 fn most(n: usize) -> usize
     ensures { result ≡ min n 1000000 }
 {
-    if n < 1000000 { n } else { 1000000 }
+    n.min(1000000)
 }
 
 // Records the values, up to a million, into a fresh series over these rows, and returns how many it counts then.
@@ -47,11 +45,9 @@ pub extern "C" fn record_all(
 {
     let mut head = exponential::fresh(top);
     let n = most(values.len());
-    let mut i: usize = 0;
-    while i < n {
-        let answer = exponential::record(size, top, head, pos, neg, values[i]);
+    for (i, v) in values[..n].iter().enumerate() {
+        let answer = exponential::record(size, top, head, pos, neg, *v);
         head = head_after(answer, head);
-        i += 1;
     }
     count_of(head)
 }

@@ -6,8 +6,8 @@ ghost use Rattle.laws.specs.Said.{number};
 ghost use Rattle.bindings.specs.Calls.{said};
 ghost use Rattle.map_words.specs.Words.{state_of, words_of};
 
-use bindings::Answer;
 use directory::Directory;
+use refusals::Refusal;
 
 // The state of three words: slots used, the map's count, the last birth number spent.
 pub fn state_of(words: [u64; 3]) -> Directory
@@ -28,12 +28,11 @@ pub fn words_of(d: Directory) -> [u64; 3]
 }
 
 // Document 01's number of an answer.
-pub fn number_of(answer: Answer) -> u64
+pub fn number_of(answer: Result<Option<u64>, Refusal>) -> u64
     ensures { result ≡ number (said answer) }
 {
     match answer {
-        Answer::Refused(no) => no as u64,
-        Answer::Done => 0,
-        Answer::Handle(_) => 0,
+        Err(e) => e.number() as u64,
+        Ok(_) => 0,
     }
 }

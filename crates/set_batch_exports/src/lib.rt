@@ -46,5 +46,5 @@ pub extern "C" fn map_measure_all(
     let next = got.dir;
     state[0] = map_words::words_of(next);
     taken[0] = got.taken as u64;
-    got.no as u64
+    refusals::code(got.end) as u64
 }

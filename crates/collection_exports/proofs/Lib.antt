@@ -1,2 +1,0 @@
--- Laws that the proof of collection_exports cites.
-pub mod Handed

@@ -1,2 +1,0 @@
--- Laws that the proofs of the exported calls cite.
-pub mod Handed

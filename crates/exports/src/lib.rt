@@ -45,7 +45,7 @@ pub extern "C" fn record_all(
 {
     let mut head = exponential::fresh(top);
     let n = most(values.len());
-    for (i, v) in values[..n].iter().enumerate() {
+    for v in &values[..n] {
         let answer = exponential::record(size, top, head, pos, neg, *v);
         head = head_after(answer, head);
     }

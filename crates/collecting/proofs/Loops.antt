@@ -41,6 +41,10 @@ found-used S h g i x n e =
     let used = h.kept.dir.used in
     subst (λ (y : ℕ). y ≤ used) (sym (e ∙ slot_is order used i n)) (slot-most order used g.slots i n)
 
+-- a place of a walk over the slots
+pub within : (i used : ℕ) → i < used + 1 → i ≤ used
+within i used h = omega arith
+
 -- output of the same lengths
 pub record Alike (q o : Output) : Type 0 where
   pub sets : length q.sets ≡ length o.sets

@@ -88,24 +88,25 @@ pub fn delta(
         (held d (stores sets.old entries.old order.old) (cells totals.now extremes.now counts.now))
         (output out_sets.old out_words.old out_pos.old out_neg.old) }
 {
-    let no = number(
+    match number(
         known, false, bounds, s, d, sets, entries, order, totals, extremes, counts, out_sets,
         out_words, out_pos, out_neg,
-    );
-    if let Err(e) = no {
-        return Reply {
+    ) {
+        Err(e) => Reply {
             answer: Err(e),
             dir: d,
-        };
-    }
-    let end = crate::walk::list(
-        false, bounds, s.extremes, s.sums, d.used, sets, entries, order, totals, extremes, counts,
-        out_sets, out_words, out_pos, out_neg,
-    );
-    let dir = sweep::sweep(d, sets, entries, order);
-    Reply {
-        answer: Ok(end.place),
-        dir,
+        },
+        Ok(()) => {
+            let end = crate::walk::list(
+                false, bounds, s.extremes, s.sums, d.used, sets, entries, order, totals, extremes,
+                counts, out_sets, out_words, out_pos, out_neg,
+            );
+            let dir = sweep::sweep(d, sets, entries, order);
+            Reply {
+                answer: Ok(end.place),
+                dir,
+            }
+        }
     }
 }
 

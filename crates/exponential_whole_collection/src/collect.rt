@@ -90,24 +90,25 @@ pub fn delta(
         (held d (stores sets.old entries.old order.old) (cells figures.now extremes.now pos.now neg.now))
         (output out_sets.old out_words.old out_pos.old out_neg.old) }
 {
-    let no = number(
+    match number(
         known, false, s, d, sets, entries, order, figures, extremes, pos, neg, out_sets, out_words,
         out_pos, out_neg,
-    );
-    if let Err(e) = no {
-        return Reply {
+    ) {
+        Err(e) => Reply {
             answer: Err(e),
             dir: d,
-        };
-    }
-    let at = crate::walk::list(
-        false, s, d.used, sets, entries, order, figures, extremes, pos, neg, out_sets, out_words,
-        out_pos, out_neg,
-    );
-    let dir = sweep::sweep(d, sets, entries, order);
-    Reply {
-        answer: Ok(at.place),
-        dir,
+        },
+        Ok(()) => {
+            let at = crate::walk::list(
+                false, s, d.used, sets, entries, order, figures, extremes, pos, neg, out_sets,
+                out_words, out_pos, out_neg,
+            );
+            let dir = sweep::sweep(d, sets, entries, order);
+            Reply {
+                answer: Ok(at.place),
+                dir,
+            }
+        }
     }
 }
 

@@ -1,10 +1,11 @@
 -- `explicit_collection::configure` meets its contract. Assumes nothing.
+use Rattle.refusals.specs.Refusals.{said}
 use Rattle.sets.specs.Sorted.{filter_of}
 use Rattle.directory.specs.View.{stores}
 use Rattle.explicit_slots.specs.Cells.{cells}
 use Rattle.value_map.specs.Explicit.{explicit_store}
 use Rattle.collecting.proofs.Configures.{configured-is}
-use Rattle.explicit_collection.specs.Configured.{said, configured}
+use Rattle.explicit_collection.specs.Configured.{configured}
 use Rattle.explicit_collection.proofs.configure.Goals as goal
 
 pub returns : goal.returns

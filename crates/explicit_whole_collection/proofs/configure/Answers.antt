@@ -1,10 +1,10 @@
 -- `explicit_whole_collection::configure` meets its contract. Assumes nothing.
+use Rattle.refusals.specs.Refusals.{said}
 use Rattle.sets.specs.Sorted.{filter_of}
 use Rattle.directory.specs.View.{stores}
 use Rattle.explicit_whole_slots.specs.Cells.{cells}
 use Rattle.whole_map.specs.Explicit.{explicit_wholes}
 use Rattle.collecting.proofs.Configures.{configured-is}
-use Rattle.explicit_collection.specs.Configured.{said}
 use Rattle.explicit_whole_collection.specs.Configured.{configured}
 use Rattle.explicit_whole_collection.proofs.configure.Goals as goal
 

@@ -3,6 +3,7 @@ use Prim.Native.Nat.{ℕ}
 use mathlib.Core.Path.{ap, ◌∙◌}
 use mir.Syntax.{w32}
 use mir.ValLaws.{to_z-of_z}
+use Rattle.refusals.specs.Refusals.{said}
 use Rattle.index.specs.Signed.{level_answer}
 use Rattle.sets.specs.Sorted.{filter_of}
 use Rattle.directory.specs.View.{Stores, stores}
@@ -12,7 +13,7 @@ use Rattle.whole_map.specs.Exponential.{exponential_wholes}
 use Rattle.collecting.specs.Configured.{configured_as}
 use Rattle.collecting.proofs.Configures.{configured-is}
 use Rattle.exponential_collection.specs.declared.Setup.{Setup}
-use Rattle.exponential_collection.specs.Configured.{level_or, said, setup_of}
+use Rattle.exponential_collection.specs.Configured.{level_or, setup_of}
 use Rattle.exponential_whole_collection.specs.Configured.{configured}
 use Rattle.exponential_whole_collection.proofs.configure.Goals as goal
 

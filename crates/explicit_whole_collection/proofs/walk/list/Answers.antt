@@ -8,7 +8,7 @@ use Rattle.listing.specs.Listed.{Output, output}
 use Rattle.collecting.specs.Lister.{Lister}
 use Rattle.collecting.specs.Slots.{walked}
 use Rattle.collecting.proofs.Turns.{Seen}
-use Rattle.collecting.proofs.Loops.{found-used, list-start, list-end, slot-sound, slot-free, list-next}
+use Rattle.collecting.proofs.Loops.{within, found-used, list-start, list-end, slot-sound, slot-free, list-next}
 use Rattle.explicit_whole_collection.specs.Points.{explicit_whole_lister}
 use Rattle.explicit_whole_collection.proofs.walk.list.Goals as goal
 
@@ -26,13 +26,13 @@ slot_at-x-requires c = omega (arith, c.loop-i-test.true, c.requires.walk.order)
 pub is_updated-updated-requires : goal.is_updated-updated-requires
 is_updated-updated-requires c =
     let map-c : Held Cells = let a = c.args in walked a.used a.sets.now a.entries.now a.order.now (cells a.totals.now a.extremes.now a.counts.now) in
-    let in_use : c.slot_at-x.result ≤ c.args.used = found-used (explicit_wholes c.args.bounds.now c.args.sums) map-c c.requires.walk c.loop-i.i c.slot_at-x.result c.loop-i-test.true c.slot_at-x.ensures in
+    let in_use : c.slot_at-x.result ≤ c.args.used = found-used (explicit_wholes c.args.bounds.now c.args.sums) map-c c.requires.walk c.loop-i.i c.slot_at-x.result (within _ _ c.loop-i-test.true) c.slot_at-x.ensures in
     c.requires.walk.entries c.slot_at-x.result (in_use)
 
 pub row_at-row-requires : goal.row_at-row-requires
 row_at-row-requires c =
     let map-c : Held Cells = let a = c.args in walked a.used a.sets.now a.entries.now a.order.now (cells a.totals.now a.extremes.now a.counts.now) in
-    let in_use : c.slot_at-x.result ≤ c.args.used = found-used (explicit_wholes c.args.bounds.now c.args.sums) map-c c.requires.walk c.loop-i.i c.slot_at-x.result c.loop-i-test.true c.slot_at-x.ensures in
+    let in_use : c.slot_at-x.result ≤ c.args.used = found-used (explicit_wholes c.args.bounds.now c.args.sums) map-c c.requires.walk c.loop-i.i c.slot_at-x.result (within _ _ c.loop-i-test.true) c.slot_at-x.ensures in
     c.requires.sets c.slot_at-x.result (in_use)
 
 pub put-next-requires : goal.put-next-requires
@@ -43,7 +43,7 @@ put-next-requires c =
     let seen : Seen L-c c.args.show c.args.cumulative map-c
     c.loop-i.i c.slot_at-x.result c.is_updated-updated.result c.is_due-due.result =
     record {
-      place = c.loop-i-test.true;
+      place = within _ _ c.loop-i-test.true;
       slot = c.slot_at-x.ensures;
       updated-is = c.is_updated-updated.ensures;
       asked_is = c.is_due-due.ensures;
@@ -52,11 +52,8 @@ put-next-requires c =
     let a = c.args in
     let l = c.loop-i in record { sound = slot-sound L-c a.show a.cumulative map-c out-c c.requires l.i _ _ _ (seen); free = slot-free L-c a.show a.cumulative map-c out-c c.requires l.i _ _ _ (seen) l.at (out_now) l.invariant }
 
-pub overflow_add-i : goal.overflow_add-i
-overflow_add-i c = omega (arith, c.loop-i-test.true, c.requires.walk.most)
-
-pub loop-i-smaller : goal.loop-i-smaller
-loop-i-smaller c = omega (arith, c.loop-i-test.true)
+pub overflow_add-i-end : goal.overflow_add-i-end
+overflow_add-i-end c = omega (arith, c.requires.walk.most)
 
 pub loop-i-preserved : goal.loop-i-preserved
 loop-i-preserved c =
@@ -66,7 +63,7 @@ loop-i-preserved c =
     let seen : Seen L-c c.args.show c.args.cumulative map-c
     c.loop-i.i c.slot_at-x.result c.is_updated-updated.result c.is_due-due.result =
     record {
-      place = c.loop-i-test.true;
+      place = within _ _ c.loop-i-test.true;
       slot = c.slot_at-x.ensures;
       updated-is = c.is_updated-updated.ensures;
       asked_is = c.is_due-due.ensures;

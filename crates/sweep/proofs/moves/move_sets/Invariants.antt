@@ -1,6 +1,6 @@
 -- `sweep::moves::move_sets` meets its contract. Assumes nothing.
 use mathlib.Core.Path.{◌≡◌}
-use Prim.Native.Nat.{◌-◌, ◌≤◌}
+use Prim.Native.Nat.{◌≤◌}
 use lib.ListN.{length}
 use Rattle.sweep.specs.Passes.{mark_in, settled}
 use Rattle.sweep.proofs.moves.move_sets.Given as goal

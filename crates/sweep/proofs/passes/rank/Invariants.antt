@@ -1,6 +1,6 @@
 -- `sweep::passes::rank` meets its contract. Assumes nothing.
 use mathlib.Core.Path.{◌≡◌}
-use Prim.Native.Nat.{◌-◌, ◌≤◌}
+use Prim.Native.Nat.{◌≤◌}
 use lib.ListN.{length}
 use Rattle.sweep.specs.Swept.{staying, rank}
 use Rattle.sweep.specs.Passes.{mark_of, packed}

@@ -1,6 +1,6 @@
 -- `sweep::passes::renumber` meets its contract. Assumes nothing.
 use mathlib.Core.Path.{◌≡◌}
-use Prim.Native.Nat.{◌-◌, ◌≤◌}
+use Prim.Native.Nat.{◌≤◌}
 use lib.ListN.{length}
 use Rattle.laws.specs.Over.{over}
 use Rattle.sets.specs.Rows.{span}

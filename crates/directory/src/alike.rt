@@ -7,7 +7,7 @@ ghost use Rattle.directory.specs.Inner.{placed, joined, SameKeys, row_at, Told, 
 fn named(used: usize, q: usize) -> bool
     ensures { result ≡ (nat_le 1 q && nat_le q used) }
 {
-    std::num::wrapping_sub_usize(q, 1) < used
+    q.wrapping_sub(1) < used
 }
 
 // The bits of d, and those in which two rows differ.

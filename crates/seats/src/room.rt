@@ -5,17 +5,14 @@ ghost use Rattle.std.specs.Prelude.{◌≡◌, ◌&&◌, ◌+◌, min, leb};
 pub fn lesser(a: usize, b: usize) -> usize
     ensures { result ≡ min a b }
 {
-    if a <= b {
-        return a;
-    }
-    b
+    a.min(b)
 }
 
 // Whether the directory's stores of these lengths have limit + 2 entries each, and a kind's cells, with room for so many slots, too.
 pub fn suffices(limit: u64, sets: usize, entries: usize, order: usize, cells: usize) -> bool
     ensures { result ≡ ((leb (limit + 2) sets && (leb (limit + 2) entries && leb (limit + 2) order)) && leb (limit + 2) cells) }
 {
-    let rest = lesser(order, cells);
-    let least = lesser(lesser(sets, entries), rest);
+    let rest = order.min(cells);
+    let least = sets.min(entries).min(rest);
     directory::suffices(limit, least)
 }

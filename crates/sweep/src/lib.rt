@@ -6,20 +6,10 @@ mod moves;
 mod passes;
 mod words;
 
-ghost use Rattle.std.specs.Prelude.{◌≡◌, ℕ, ◌-◌, ◌<◌, ◌≤◌, length, get_or};
+ghost use Rattle.std.specs.Prelude.{◌≡◌, ℕ, ◌<◌, ◌≤◌, length, get_or};
 ghost use Rattle.directory.specs.Calls.{kept};
 ghost use Rattle.directory.specs.View.{stores};
 ghost use Rattle.sweep.specs.Swept.{swept_kept};
-
-// The count without those that went.
-fn less(count: u64, gone: u64) -> u64
-    ensures { result ≡ count - gone }
-{
-    if count < gone {
-        return 0;
-    }
-    count - gone
-}
 
 // Removes the slots that go, in passes over the stores. While they run, the upper half of the word of place i in `order` holds the new number
 // of slot i + 1, 0 if it goes: no further memory is needed, and nothing behind the new slots is changed.
@@ -42,7 +32,7 @@ pub fn sweep(
     crate::passes::strip(used, order);
     directory::Directory {
         used: kept,
-        count: less(d.count, (used - kept) as u64),
+        count: d.count.saturating_sub((used - kept) as u64),
         last: d.last,
     }
 }

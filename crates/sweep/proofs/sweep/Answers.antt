@@ -31,5 +31,5 @@ overflow_sub-used c =
 
 pub returns : goal.returns
 returns c =
-    swept-is c.args.d c.args.sets.now c.args.entries.now c.args.order.now c.requires.0 c.requires.1 c.requires.2 c.requires.3 c.requires.4 c.rank-kept.new.order c.rank-kept.ensures.1 c.renumber.new.order c.renumber.ensures c.rank-kept.result c.less.result c.move_sets.new.sets c.move_entries.new.entries c.strip.new.order
-    c.rank-kept.ensures.0 c.move_sets.ensures c.move_entries.ensures c.strip.ensures c.less.ensures
+    swept-is c.args.d c.args.sets.now c.args.entries.now c.args.order.now c.requires.0 c.requires.1 c.requires.2 c.requires.3 c.requires.4 c.rank-kept.new.order c.rank-kept.ensures.1 c.renumber.new.order c.renumber.ensures c.rank-kept.result c.saturating_sub.result c.move_sets.new.sets c.move_entries.new.entries c.strip.new.order
+    c.rank-kept.ensures.0 c.move_sets.ensures c.move_entries.ensures c.strip.ensures c.saturating_sub.ensures

@@ -58,8 +58,8 @@ fn by_places(used: usize, entries: &[[u64; 3]], order: &[u32], h: u64) -> Result
     if names(0, entries[0][1], h) {
         return Ok(0);
     }
-    for i in 0..used {
-        let q = order[i] as usize;
+    for q in &order[..used] {
+        let q = *q as usize;
         if names(entries[q][0], entries[q][1], h) {
             return Ok(q);
         }

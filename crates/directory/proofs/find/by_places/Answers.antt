@@ -1,5 +1,7 @@
 -- `directory::find::by_places` meets its contract. Assumes nothing.
-use Rattle.std.proofs.Common.{◌≤◌, get_or, sym, ◌∙◌, arith}
+use Rattle.std.specs.Prelude.{Ok}
+use Rattle.std.proofs.Common.{◌≡◌, ℕ, ◌<◌, ◌≤◌, Bool, false, true, ◌&&◌, eqb, ltb, [], get_or, take, sym, ap, ◌∙◌, arith, get_or-take}
+use lib.Seq.{length-take-le}
 use Rattle.sets.specs.Rows.{span}
 use Rattle.directory.proofs.Finds.{scan-first, scan-skip, scan-over, scan-here, scan-on}
 use Rattle.directory.proofs.find.by_places.Goals as goal
@@ -8,20 +10,29 @@ pub returns-then-names : goal.returns-then-names
 returns-then-names c =
     sym (scan-first c.args.h c.args.entries.now (span c.args.order.now 0 c.args.used) (sym c.names.ensures ∙ c.if-names.true))
 
-pub loop-i-init : goal.loop-i-init
-loop-i-init c =
-    (omega arith, scan-skip c.args.h c.args.entries.now c.args.order.now c.args.used (sym c.names.ensures ∙ c.if-names.false))
+pub loop-q-init : goal.loop-q-init
+loop-q-init c =
+    scan-skip c.args.h c.args.entries.now c.args.order.now c.args.used (sym c.names.ensures ∙ c.if-names.false)
 
 pub returns-then-names-2 : goal.returns-then-names-2
 returns-then-names-2 c =
-    let slot_of : (1 ≤ get_or c.args.order.now c.loop-i.i 0) × (get_or c.args.order.now c.loop-i.i 0 ≤ c.args.used) = c.requires.2 c.loop-i.i c.loop-i-test.true in
-    sym (c.loop-i.invariant.1 ∙ scan-here c.args.h c.args.entries.now c.args.order.now c.args.used c.loop-i.i c.loop-i-test.true (slot_of).0 (sym c.names-in-loop-i.ensures ∙ c.if-names-2.true))
+    let i : ℕ = c.loop-q.q-index in
+    let in-used : i < c.args.used = omega (arith, c.loop-q-test.true, length-take-le c.args.used c.args.order.now c.requires.1) in
+    let place : get_or (take c.args.used c.args.order.now) i 0 ≡ get_or c.args.order.now i 0 = get_or-take c.args.used c.args.order.now i 0 in-used in
+    let named : ℕ → Bool = λ q. eqb (get_or (get_or c.args.entries.now q []) 0 0) c.args.h && ltb 0 (get_or (get_or c.args.entries.now q []) 1 0) in
+    let told : named (get_or c.args.order.now i 0) ≡ true = sym (ap named place) ∙ sym c.names-in-loop-q.ensures ∙ c.if-names-2.true in
+    ap (λ (q : ℕ). Ok q) place ∙ sym (c.loop-q.invariant ∙ scan-here c.args.h c.args.entries.now c.args.order.now c.args.used i in-used (c.requires.2 i in-used).0 told)
 
-pub loop-i-preserved : goal.loop-i-preserved
-loop-i-preserved c =
-    let slot_of : (1 ≤ get_or c.args.order.now c.loop-i.i 0) × (get_or c.args.order.now c.loop-i.i 0 ≤ c.args.used) = c.requires.2 c.loop-i.i c.loop-i-test.true in
-    (omega (arith, c.loop-i-test.true), c.loop-i.invariant.1 ∙ scan-on c.args.h c.args.entries.now c.args.order.now c.args.used c.loop-i.i c.loop-i-test.true (slot_of).0 (sym c.names-in-loop-i.ensures ∙ c.if-names-2.false))
+pub loop-q-preserved : goal.loop-q-preserved
+loop-q-preserved c =
+    let i : ℕ = c.loop-q.q-index in
+    let in-used : i < c.args.used = omega (arith, c.loop-q-test.true, length-take-le c.args.used c.args.order.now c.requires.1) in
+    let place : get_or (take c.args.used c.args.order.now) i 0 ≡ get_or c.args.order.now i 0 = get_or-take c.args.used c.args.order.now i 0 in-used in
+    let named : ℕ → Bool = λ q. eqb (get_or (get_or c.args.entries.now q []) 0 0) c.args.h && ltb 0 (get_or (get_or c.args.entries.now q []) 1 0) in
+    let told : named (get_or c.args.order.now i 0) ≡ false = sym (ap named place) ∙ sym c.names-in-loop-q.ensures ∙ c.if-names-2.false in
+    c.loop-q.invariant ∙ scan-on c.args.h c.args.entries.now c.args.order.now c.args.used i in-used (c.requires.2 i in-used).0 told
 
 pub returns : goal.returns
 returns c =
-    sym (c.loop-i.invariant.1 ∙ scan-over c.args.h c.args.entries.now c.args.order.now c.args.used c.loop-i.i c.loop-i-test.false)
+    let over : c.args.used ≤ c.loop-q.q-index = omega (arith, c.loop-q-test.false, length-take-le c.args.used c.args.order.now c.requires.1) in
+    sym (c.loop-q.invariant ∙ scan-over c.args.h c.args.entries.now c.args.order.now c.args.used c.loop-q.q-index over)

@@ -1,5 +1,5 @@
 // Where a set, or a handle, stands in the directory.
-ghost use Rattle.std.specs.Prelude.{◌≡◌, ℕ, suc, ◌+◌, ◌<◌, ◌≤◌, true, ◌&&◌, [], ◌∷◌, length, ◌==◌, nat_lt, slice_index, slice_index_or};
+ghost use Rattle.std.specs.Prelude.{◌≡◌, ℕ, suc, ◌+◌, ◌<◌, ◌≤◌, true, ◌&&◌, [], ◌∷◌, Some, length, ◌==◌, nat_lt, slice_index, slice_index_or};
 ghost use Prim.Native.Nat.{Ordering as Compared};
 ghost use Rattle.tally.specs.Sets.{cmp};
 ghost use Rattle.sets.specs.Rows.{span, size, set_of};
@@ -67,22 +67,23 @@ fn by_places(used: usize, entries: &[[u64; 3]], order: &[u32], h: u64) -> Result
     Err(0)
 }
 
-// The slot that has the handle's number, if the handle names it; else 0. Until a set is removed each slot's number is its birth number.
-fn own_slot(used: usize, entries: &[[u64; 3]], h: u64) -> usize
+// The slot that has the handle's number, if the handle names it. Until a set is removed each slot's number is its birth number.
+fn own_slot(used: usize, entries: &[[u64; 3]], h: u64) -> Option<usize>
     requires { used < length entries.now }
-    ensures { 1 ≤ result → (result ≤ used) × ((birth_at entries.now result == h && nat_lt 0 (slice_index (slice_index_or entries.now result []) 1)) ≡ true) }
+    ensures { (x : ℕ) → result ≡ Some x
+        → (x ≤ used) × ((birth_at entries.now x == h && nat_lt 0 (slice_index (slice_index_or entries.now x []) 1)) ≡ true) }
 {
     if h < 1 {
-        return 0;
+        return None;
     }
     if h > used as u64 {
-        return 0;
+        return None;
     }
     let x = h as usize;
     if names(entries[x][0], entries[x][1], h) {
-        return x;
+        return Some(x);
     }
-    0
+    None
 }
 
 // The slot that a handle names, if it has bindings; else `Err`, which number 7 refuses. In a directory that agrees a named slot with its birth
@@ -97,8 +98,7 @@ pub fn by_handle(
     ensures { result ≡ scan h entries.now (0 ∷ span order.now 0 d.used) }
 {
     let used = d.used;
-    let x = own_slot(used, entries, h);
-    if x > 0 {
+    if let Some(x) = own_slot(used, entries, h) {
         return Ok(x);
     }
     by_places(used, entries, order, h)
@@ -133,8 +133,7 @@ pub fn by_birth(
     ensures { result ≡ scan h entries.now (0 ∷ span order.now 0 d.used) }
 {
     let used = d.used;
-    let x = own_slot(used, entries, h);
-    if x > 0 {
+    if let Some(x) = own_slot(used, entries, h) {
         return Ok(x);
     }
     let y = born_by(used, entries, h);

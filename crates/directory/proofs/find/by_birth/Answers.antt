@@ -4,11 +4,11 @@ use Rattle.directory.specs.View.{Stores, birth_at}
 use Rattle.directory.proofs.Handles.{scan-own, scan-last}
 use Rattle.directory.proofs.find.by_birth.Goals as goal
 
-pub returns-then-x-gt0 : goal.returns-then-x-gt0
-returns-then-x-gt0 c =
+pub returns-in-Some : goal.returns-in-Some
+returns-in-Some c =
     let stores : Stores = record { sets = c.requires.1.sets; entries = c.args.entries.now; order = c.args.order.now } in
-    let e = c.own_slot-x.ensures c.if-x-gt0.true in
-    sym (scan-own c.requires.1.limit c.args.d (stores) c.requires.1.right c.args.h c.own_slot-x.result e.0 e.1)
+    let e = c.own_slot.ensures c.in-Some.x c.in-Some.is in
+    sym (scan-own c.requires.1.limit c.args.d (stores) c.requires.1.right c.args.h c.in-Some.x e.0 e.1)
 
 pub born_by-y-requires : goal.born_by-y-requires
 born_by-y-requires c = (c.requires.0, c.requires.2)

@@ -4,10 +4,11 @@
 #![tactic(auto)]
 
 ghost use Rattle.std.specs.Prelude.{◌≡◌, take};
+ghost use Rattle.refusals.specs.Refusals.{code};
 ghost use Rattle.replay_batches.specs.Batched.{batched_in};
 
 use batches::Batch;
-use replay_state::{State, within};
+use replay_state::{Fault, State, within};
 
 pub mod explicit_lines;
 pub mod exponential_lines;
@@ -36,13 +37,13 @@ pub fn integers_in<'a>(xs: &'a [i64], n: u64) -> &'a [i64]
 
 // ---- the state after such a line
 
-// It tells how many values were taken, with the number that refused the next one and the directory that the call left.
+// It tells how many values were taken, with what refused the next one and the directory that the call left.
 pub fn batched(s: State, reply: Batch) -> State
-    ensures { result ≡ batched_in reply.taken reply.no reply.dir s }
+    ensures { result ≡ batched_in reply.taken (code reply.end) reply.dir s }
 {
     let dir = reply.dir;
     let mut next = s;
-    next.no = reply.no;
+    next.no = reply.end.map_err(Fault::Refused);
     next.told = reply.taken as u64;
     next.dir = dir;
     next

@@ -6,26 +6,24 @@
 #![tactic(auto)]
 
 ghost use Rattle.std.specs.Prelude.{◌≡◌};
-ghost use Rattle.explicit_collection.specs.Configured.{said};
+ghost use Rattle.refusals.specs.Refusals.{said};
 ghost use Rattle.replay_state.specs.Bound.{lent_stores, given_in};
 ghost use Rattle.replay_explicit.specs.Followed.{cells_in, configured_by};
 ghost use Rattle.replay_explicit.specs.Followed.{after_configured, after_measured, after_measured_by, after_followed};
 ghost use Rattle.replay_explicit.specs.Collected.{output_in, after_delta, after_cumulative, after_collected};
 
-use explicit_collection::{Configured, Settings};
+use explicit_collection::{Settings, Setup};
+use refusals::Refusal;
 use replay_state::{State, after, binding, lent};
 
 // ---- every line but collections
 
-pub fn configured(s: State, reply: Configured) -> State
+pub fn configured(s: State, reply: Result<Setup, Refusal>) -> State
     ensures { result ≡ configured_by (said reply) s }
 {
     match reply {
-        Configured::Refused(no) => after::unbegun(s, no),
-        Configured::Accepted(setup) => {
-            let dir = setup.dir;
-            after::begun(s, 0, dir)
-        }
+        Err(no) => after::unbegun(s, no),
+        Ok(setup) => after::begun(s, 0, setup.dir),
     }
 }
 

@@ -6,13 +6,14 @@
 #![tactic(auto)]
 
 ghost use Rattle.std.specs.Prelude.{◌≡◌};
-ghost use Rattle.exponential_collection.specs.Configured.{said};
+ghost use Rattle.refusals.specs.Refusals.{said};
 ghost use Rattle.replay_state.specs.Bound.{lent_stores, given_in};
 ghost use Rattle.replay_exponential.specs.Followed.{cells_in, scale_in, configured_by};
 ghost use Rattle.replay_exponential.specs.Followed.{after_configured, after_measured, after_measured_by, after_followed};
 ghost use Rattle.replay_exponential.specs.Collected.{output_in, after_delta, after_cumulative, after_collected};
 
-use exponential_collection::{Configured, Settings};
+use exponential_collection::{Settings, Setup};
+use refusals::Refusal;
 use replay_state::{State, after, binding, lent};
 
 // ---- every line but collections
@@ -30,16 +31,12 @@ pub fn scale_of(n: u64) -> i32
     }
 }
 
-pub fn configured(s: State, reply: Configured) -> State
+pub fn configured(s: State, reply: Result<Setup, Refusal>) -> State
     ensures { result ≡ configured_by (said reply) s }
 {
     match reply {
-        Configured::Refused(no) => after::unbegun(s, no),
-        Configured::Accepted(setup) => {
-            let z = setup.settings;
-            let dir = setup.dir;
-            after::begun(s, z.top, dir)
-        }
+        Err(no) => after::unbegun(s, no),
+        Ok(setup) => after::begun(s, setup.settings.top, setup.dir),
     }
 }
 

@@ -6,14 +6,15 @@
 #![tactic(auto)]
 
 ghost use Rattle.std.specs.Prelude.{◌≡◌};
-ghost use Rattle.singles.specs.Configured.{said};
+ghost use Rattle.refusals.specs.Refusals.{said};
 ghost use Rattle.replay_state.specs.Bound.{lent_stores, given_in};
 ghost use Rattle.replay_singles.specs.Followed.{kind_of, values_in, configured_by};
 ghost use Rattle.replay_singles.specs.Followed.{after_configured, after_measured, after_measured_by, after_followed};
 ghost use Rattle.replay_singles.specs.Collected.{output_in, after_delta, after_cumulative, after_collected};
 
+use refusals::Refusal;
 use replay_state::{State, after, binding, lent};
-use singles::{Aggregation, Configured, Settings};
+use singles::{Aggregation, Settings, Setup};
 
 pub fn aggregation(s: State) -> Aggregation
     ensures { result ≡ kind_of s }
@@ -26,15 +27,12 @@ pub fn aggregation(s: State) -> Aggregation
 
 // ---- every line but collections
 
-fn configured(s: State, reply: Configured) -> State
+fn configured(s: State, reply: Result<Setup, Refusal>) -> State
     ensures { result ≡ configured_by (said reply) s }
 {
     match reply {
-        Configured::Refused(no) => after::unbegun(s, no),
-        Configured::Accepted(setup) => {
-            let dir = setup.dir;
-            after::begun(s, 0, dir)
-        }
+        Err(no) => after::unbegun(s, no),
+        Ok(setup) => after::begun(s, 0, setup.dir),
     }
 }
 

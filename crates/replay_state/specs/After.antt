@@ -1,11 +1,15 @@
 -- BETWEEN OUR OWN CRATES: serves inner contracts and proofs; nobody needs it to believe the public calls or the theorems.
 -- The state of a script after a line: refused, accepted, and after each kind of call. Assumes nothing.
-use Rattle.std.specs.Prelude.{ℕ, min, ◌%◌, Bool, false, ◌||◌, List, eqb, get_or, set, replicate}
+use Rattle.std.specs.Prelude.{ℕ, min, ◌%◌, Bool, false, ◌||◌, List, eqb, get_or, set, replicate, Result, Ok, Err, [], ◌∷◌}
 use Rattle.std.proofs.Math.Option.{Option, none, some}
 use Rattle.laws.specs.Pick.{pick}
 use Rattle.laws.specs.Said.{Said, refusal, success}
 use Rattle.directory.specs.declared.Directory.{Directory}
+use Rattle.refusals.specs.declared.Refusal.{Refusal}
+use Rattle.refusals.specs.declared.Refusal.TheVariants as V
 use Rattle.replay_state.specs.declared.State.{State}
+use Rattle.replay_state.specs.declared.Fault.{Fault}
+use Rattle.replay_state.specs.declared.Fault.TheVariants.{Refused}
 
 -- whether a kind's letter is that of sums, `s`, or of last values, `l`
 abbrev pub single : ℕ → Bool
@@ -19,9 +23,27 @@ whole kind = eqb kind 69 || eqb kind 88
 abbrev pub field : State → ℕ → ℕ
 field s k = get_or s.f k 0
 
+-- the refusal that has a number, from 1 to 16
+abbrev pub refusal_of : ℕ → Refusal
+refusal_of n =
+    get_or
+    (V.MaxSize ∷ V.MaxSize ∷ V.MaxScale ∷ V.Bounds ∷ V.Limit ∷ V.Attributes ∷ V.NotFinite ∷ V.NoHandle ∷ V.Disagrees ∷ V.Full ∷ V.NoRoom
+    ∷ V.Unlike ∷ V.LentShort ∷ V.NoValues ∷ V.OffGrid ∷ V.NotASheet ∷ V.SumOutside ∷ [])
+    n V.MaxSize
+
+-- what a line comes to: accepted, or refused with a number
+abbrev pub Outcome : Type 0
+Outcome = Result (Unit {0}) Fault
+
+abbrev pub accepted : Outcome
+accepted = Ok tt
+
+abbrev pub refused : ℕ → Outcome
+refused n = Err (Refused (refusal_of n))
+
 -- with what a call can change: what the line comes to, the map's state, the handles, the held start, how many points were listed and of which
 -- kind they are
-abbrev pub answered : State → ℕ → ℕ → Directory → List ℕ → ℕ → ℕ → ℕ → State
+abbrev pub answered : State → Outcome → ℕ → Directory → List ℕ → ℕ → ℕ → ℕ → State
 answered s n told dir handles start listed collected =
     record {
       letter = s.letter;
@@ -54,22 +76,22 @@ answered s n told dir handles start listed collected =
     }
 
 abbrev pub refused_by : ℕ → State → State
-refused_by n s = answered s n s.told s.dir s.handles s.start s.listed s.collected
+refused_by n s = answered s (refused n) s.told s.dir s.handles s.start s.listed s.collected
 
 -- accepted, with what it tells and another directory
 abbrev pub accepted_in : Directory → ℕ → State → State
-accepted_in dir told s = answered s 0 told dir s.handles s.start s.listed s.collected
+accepted_in dir told s = answered s accepted told dir s.handles s.start s.listed s.collected
 
 -- ---- configuring
 
 -- after a refused `n` nothing waits
-abbrev pub not_begun : ℕ → State → State
-not_begun n s =
+abbrev pub waiting_none : Outcome → State → State
+waiting_none o s =
     record {
       letter = s.letter;
       of = s.of;
       f = s.f;
-      no = n;
+      no = o;
       told = s.told;
       kind = s.kind;
       size = s.size;
@@ -95,6 +117,9 @@ not_begun n s =
       collected = s.collected;
     }
 
+abbrev pub not_begun : ℕ → State → State
+not_begun n s = waiting_none (refused n) s
+
 -- after an accepted `n`: what was asked for, with what waited
 abbrev pub begun_as : ℕ → ℕ → ℕ → Directory → State → State
 begun_as kind size top dir s =
@@ -102,7 +127,7 @@ begun_as kind size top dir s =
       letter = s.letter;
       of = s.of;
       f = s.f;
-      no = 0;
+      no = accepted;
       told = s.told;
       kind = kind;
       size = size;
@@ -137,11 +162,11 @@ newly_begun top dir s = begun_as (field s 1 % 256) (field s 3 % 4294967296) top 
 abbrev pub done_by : Said (Option ℕ) → Directory → State → State
 done_by (refusal n) dir s = refused_by n s
 done_by (success none) dir s = accepted_in dir 0 s
-done_by (success (some birth)) dir s = answered s 0 birth dir (set s.handles (min (field s 1) 99) birth) s.start s.listed s.collected
+done_by (success (some birth)) dir s = answered s accepted birth dir (set s.handles (min (field s 1) 99) birth) s.start s.listed s.collected
 
 -- ---- collecting
 
 -- after a collection that says so: it tells the held start, a delta collection holds the line's time, and its points are of the map's kind
 abbrev pub collected_by : Said ℕ → Directory → State → State
 collected_by (refusal n) dir s = refused_by n s
-collected_by (success many) dir s = answered s 0 s.start dir s.handles (pick s.delta (field s 1) s.start) many s.kind
+collected_by (success many) dir s = answered s accepted s.start dir s.handles (pick s.delta (field s 1) s.start) many s.kind

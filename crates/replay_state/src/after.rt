@@ -3,20 +3,28 @@ ghost use Rattle.std.specs.Prelude.{◌≡◌};
 ghost use Rattle.std.proofs.Math.Option.{some};
 ghost use Rattle.laws.specs.Said.{success};
 ghost use Rattle.bindings.specs.Calls as bindings-calls;
-ghost use Rattle.collecting.specs.Collected.{said};
-ghost use Rattle.replay_state.specs.After.{answered, refused_by, accepted_in, not_begun, newly_begun, done_by, collected_by};
+ghost use Rattle.refusals.specs.Refusals.{number, said};
+ghost use Rattle.replay_state.specs.After.{answered, accepted, refused_by, accepted_in, not_begun, newly_begun, done_by, collected_by};
 
-use crate::State;
+use crate::{Fault, State};
 use bindings::Reply;
 use clock::Clock;
 use directory::Directory;
+use refusals::Refusal;
 
-// A line that is refused with a number, or can't be read.
-pub fn refused(s: State, no: u8) -> State
-    ensures { result ≡ refused_by no s }
+// A line that can't be read.
+pub fn unread(s: State) -> State {
+    let mut next = s;
+    next.no = Err(Fault::Unread);
+    next
+}
+
+// A line whose call is refused.
+pub fn refused(s: State, no: Refusal) -> State
+    ensures { result ≡ refused_by (number no) s }
 {
     let mut next = s;
-    next.no = no;
+    next.no = Err(Fault::Refused(no));
     next
 }
 
@@ -25,7 +33,7 @@ fn accepted(s: State, dir: Directory, told: u64) -> State
     ensures { result ≡ accepted_in dir told s }
 {
     let mut next = s;
-    next.no = 0;
+    next.no = Ok(());
     next.told = told;
     next.dir = dir;
     next
@@ -34,11 +42,11 @@ fn accepted(s: State, dir: Directory, told: u64) -> State
 // ---- configuring
 
 // After an `n` that is refused: nothing waits.
-pub fn unbegun(s: State, no: u8) -> State
-    ensures { result ≡ not_begun no s }
+pub fn unbegun(s: State, no: Refusal) -> State
+    ensures { result ≡ not_begun (number no) s }
 {
     let mut next = s;
-    next.no = no;
+    next.no = Err(Fault::Refused(no));
     next.next_bounds = 0;
     next.next_filtered = false;
     next.next_keys = 0;
@@ -65,7 +73,7 @@ pub fn begun(s: State, top: u32, dir: Directory) -> State
     next.dir = dir;
     next.handles = [0u64; 100];
     next.start = s.f[10];
-    next.no = 0;
+    next.no = Ok(());
     next.next_bounds = 0;
     next.next_filtered = false;
     next.next_keys = 0;
@@ -90,9 +98,11 @@ pub fn done(s: State, reply: Reply) -> State
     let answer = reply.answer;
     let dir = reply.dir;
     match answer {
-        bindings::Answer::Refused(no) => refused(s, no),
-        bindings::Answer::Done => accepted(s, dir, 0),
-        bindings::Answer::Handle(birth) => bound(s, dir, birth),
+        Err(no) => refused(s, no),
+        Ok(handle) => match handle {
+            None => accepted(s, dir, 0),
+            Some(birth) => bound(s, dir, birth),
+        },
     }
 }
 
@@ -100,10 +110,10 @@ pub fn done(s: State, reply: Reply) -> State
 
 // After a collection of so many points, which tells a start, and the clock holds another.
 fn listed(s: State, dir: Directory, many: usize, told: u64, start: u64) -> State
-    ensures { result ≡ answered s 0 told dir s.handles start many s.kind }
+    ensures { result ≡ answered s accepted told dir s.handles start many s.kind }
 {
     let mut next = s;
-    next.no = 0;
+    next.no = Ok(());
     next.told = told;
     next.dir = dir;
     next.listed = many;
@@ -124,11 +134,11 @@ fn turned(s: State, dir: Directory, many: usize) -> State
     listed(s, dir, many, clock::at_cumulative(held), s.start)
 }
 
-pub fn collected(s: State, dir: Directory, answer: collecting::Answer) -> State
+pub fn collected(s: State, dir: Directory, answer: Result<usize, Refusal>) -> State
     ensures { result ≡ collected_by (said answer) dir s }
 {
     match answer {
-        collecting::Answer::Refused(no) => refused(s, no),
-        collecting::Answer::Listed(many) => turned(s, dir, many),
+        Err(no) => refused(s, no),
+        Ok(many) => turned(s, dir, many),
     }
 }

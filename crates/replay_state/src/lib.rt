@@ -5,6 +5,7 @@ ghost use Rattle.std.specs.Prelude.{◌≡◌, min, ◌%◌};
 ghost use Rattle.replay_state.specs.After.{single, whole};
 
 use directory::Directory;
+use refusals::Refusal;
 
 pub mod after;
 pub mod binding;
@@ -17,8 +18,8 @@ pub type Keys = [u32; 32];
 // there, of a handle that is asked for the birth number in its place.
 pub type Fields = [u64; 11];
 
-// The line that is followed, the kind whose call it makes, 0 where it makes none, and what it comes to: `no` is 0 where it is accepted,
-// document 01's number, or UNREAD; `told` the birth number of a binding or the start of a collection. What was configured, where `kind` is
+// The line that is followed, the kind whose call it makes, 0 where it makes none, and what it comes to: `no` is an error where it is
+// not accepted; `told` the birth number of a binding or the start of a collection. What was configured, where `kind` is
 // `e`, `x`, `s`, `l`, over i64 `E` or `X`, or 0 before any accepted `n`; the map's and the clock's state, and the handles; what waits for the
 // next `n`; how many counts and entries are lent; how many points the last collection has, and the kind that they are of.
 #[derive(Clone, Copy)]
@@ -26,7 +27,7 @@ pub struct State {
     pub letter: u8,
     pub of: u8,
     pub f: Fields,
-    pub no: u8,
+    pub no: Result<(), Fault>,
     pub told: u64,
     pub kind: u8,
     pub size: u32,
@@ -52,7 +53,12 @@ pub struct State {
     pub collected: u8,
 }
 
-pub const UNREAD: u8 = 255;
+// Why a line is not accepted: it can't be read, or its call is refused.
+#[derive(Clone, Copy)]
+pub enum Fault {
+    Unread,
+    Refused(Refusal),
+}
 
 // Before any line of a script.
 pub fn first() -> State
@@ -71,7 +77,7 @@ pub fn first() -> State
         letter: 0,
         of: 0,
         f,
-        no: 0,
+        no: Ok(()),
         told: 0,
         kind: 0,
         size: 0,

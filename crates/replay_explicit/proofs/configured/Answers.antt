@@ -1,16 +1,15 @@
 -- `replay_explicit::configured` meets its contract. Assumes nothing.
 use mathlib.Core.Path.{sym, ap, ◌∙◌}
-use Rattle.explicit_collection.specs.Configured.{said}
-use Rattle.explicit_collection.specs.declared.Configured.{Configured}
+use Rattle.refusals.specs.Refusals.{said}
 use Rattle.replay_explicit.specs.Followed.{configured_by}
 use Rattle.replay_explicit.proofs.configured.Goals as goal
 
-pub returns-in-Refused : goal.returns-in-Refused
-returns-in-Refused c =
+pub returns-in-Err : goal.returns-in-Err
+returns-in-Err c =
     let a = c.args in
-    c.unbegun.ensures ∙ sym (ap (λ (x : Configured). configured_by (said x) a.s) c.in-Refused.is)
+    c.unbegun.ensures ∙ sym (ap (λ x. configured_by (said x) a.s) c.in-Err.is)
 
-pub returns-in-Accepted : goal.returns-in-Accepted
-returns-in-Accepted c =
+pub returns-in-Ok : goal.returns-in-Ok
+returns-in-Ok c =
     let a = c.args in
-    c.begun.ensures ∙ sym (ap (λ (x : Configured). configured_by (said x) a.s) c.in-Accepted.is)
+    c.begun.ensures ∙ sym (ap (λ x. configured_by (said x) a.s) c.in-Ok.is)

@@ -1,21 +1,21 @@
 -- `replay_state::after::done` meets its contract. Assumes nothing.
+use Rattle.std.specs.Prelude.{Ok}
 use mathlib.Core.Path.{sym, ap, ◌∙◌}
 use Rattle.bindings.specs.Calls.{said}
-use Rattle.bindings.specs.declared.Answer.{Answer}
 use Rattle.replay_state.specs.After.{done_by}
 use Rattle.replay_state.proofs.after.done.Goals as goal
 
-pub returns-in-Refused : goal.returns-in-Refused
-returns-in-Refused c =
+pub returns-in-Err : goal.returns-in-Err
+returns-in-Err c =
     let a = c.args in
-    c.refused.ensures ∙ sym (ap (λ (x : Answer). done_by (said x) a.reply.dir a.s) c.in-Refused.is)
+    c.refused.ensures ∙ sym (ap (λ x. done_by (said x) a.reply.dir a.s) c.in-Err.is)
 
-pub returns-in-Done : goal.returns-in-Done
-returns-in-Done c =
+pub returns-in-None : goal.returns-in-None
+returns-in-None c =
     let a = c.args in
-    c.accepted.ensures ∙ sym (ap (λ (x : Answer). done_by (said x) a.reply.dir a.s) c.in-Done.is)
+    c.accepted.ensures ∙ sym (ap (λ x. done_by (said x) a.reply.dir a.s) (c.in-Ok.is ∙ ap Ok c.in-None.is))
 
-pub returns-in-Handle : goal.returns-in-Handle
-returns-in-Handle c =
+pub returns-in-Some : goal.returns-in-Some
+returns-in-Some c =
     let a = c.args in
-    c.bound.ensures ∙ sym (ap (λ (x : Answer). done_by (said x) a.reply.dir a.s) c.in-Handle.is)
+    c.bound.ensures ∙ sym (ap (λ x. done_by (said x) a.reply.dir a.s) (c.in-Ok.is ∙ ap Ok c.in-Some.is))

@@ -54,9 +54,15 @@ pub fn finish_all(
 pub fn single(b: Batch) -> Reply
     ensures { (said result.answer ≡ answer_of (code b.end)) × (result.dir ≡ b.dir) }
 {
-    Reply {
-        answer: b.end.map(|_| None),
-        dir: b.dir,
+    match b.end {
+        Ok(_) => Reply {
+            answer: Ok(None),
+            dir: b.dir,
+        },
+        Err(e) => Reply {
+            answer: Err(e),
+            dir: b.dir,
+        },
     }
 }
 

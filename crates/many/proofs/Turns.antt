@@ -68,3 +68,7 @@ module _ {A Left : Type 0} (f : Left → A → Recording Left) where
     ended h =
         let t : i + 0 ≡ i = omega arith in
         ap (λ (ws : List A). later i (each f l ws)) (drop_of_length-le vs h) ∙ (λ j. record { taken = t j; no = 0; left = l })
+
+    -- the same behind a loop over the whole list
+    pub through : i ≡ length vs → later i (each f l (drop i vs)) ≡ record { taken = length vs; no = 0; left = l }
+    through e = let r : ℕ → Many Left = λ n. record { taken = n; no = 0; left = l } in ended (omega (arith, e)) ∙ ap r e

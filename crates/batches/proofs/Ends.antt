@@ -121,6 +121,12 @@ module _ {K : Kind} {S : Store K} (W : Owed S) (w : S.Switches) (limit : ℕ) (h
       known_at S w h known (seat_by limit b h.kept) a (Batches.same-seat W w limit 0 _ _ (by-course W limit b) h v p q s e z) (λ k. (g k).1),
     )
 
+    -- refused: nothing was taken
+    pub by-away : (a.no ≡ 0 → ⊥) → (l vs : List K.Value) → l ≡ v ∷ vs → many 0 a.no h ≡ measured_all_by S limit h l b
+    unfolding measured_all_by measured_by
+    by-away d l vs cut =
+        Batches.off W w limit 0 _ _ (by-course W limit b) h v p q s e d vs ∙ ap (λ (i : List K.Value). measured_all_by S limit h i b) (sym cut)
+
     pub by-finite : a.no ≡ 0 → K.finite v ≡ true
     by-finite z = Batches.finite-first W w limit 0 _ _ (by-course W limit b) h v p q s e z
 
@@ -156,6 +162,11 @@ module _ {K : Kind} {S : Store K} (W : Owed S) (w : S.Switches) (limit : ℕ) (f
       (Batches.sits-there W w limit _ _ _ course h v p q s e z z).0,
       known_at S w h known (seat_of limit row h.kept) a (Batches.same-seat W w limit _ _ _ course h v p q s e z) (λ k. (g k).1),
     )
+
+    pub for-away : (a.no ≡ 0 → ⊥) → (l vs : List K.Value) → l ≡ v ∷ vs → many 0 a.no h ≡ measured_all S limit filter h l attrs
+    unfolding measured_all measured
+    for-away d l vs cut =
+        Batches.off W w limit _ _ _ course h v p q s e d vs ∙ ap (λ (i : List K.Value). measured_all S limit filter h i attrs) (sym cut)
 
     pub for-finite : a.no ≡ 0 → K.finite v ≡ true
     for-finite z = Batches.finite-first W w limit _ _ _ course h v p q s e z

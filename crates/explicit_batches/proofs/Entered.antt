@@ -1,5 +1,10 @@
 -- Values that enter a slot's row: whether its series agrees, where they start, and what the slot has then. Assumes nothing.
 use Prim.Native.Nat.{ℕ, ◌≤◌}
+use Rattle.std.specs.Prelude.{Result, Ok, Err}
+use Rattle.core.specs.Result.{result_unwrap_or}
+use Rattle.refusals.specs.Refusals.{said}
+use Rattle.refusals.specs.declared.Refusal.{Refusal}
+use Rattle.laws.proofs.Answers.{success?, value_in}
 use mathlib.Core.Path.{◌≡◌, refl, sym, ap, subst, ◌∙◌}
 use mathlib.Core.Logic.{⊎_elim}
 use mathlib.Core.Bool.{Bool, true, false, ◌&&◌}
@@ -37,6 +42,11 @@ use Rattle.explicit_batches.specs.Values.{Series, step, Sound}
 use Rattle.explicit_batches.specs.Slot.{load, extremes_of, put, agreeing, agrees_if, begun, entering}
 use Rattle.explicit_batches.proofs.Values.{counted_none, bar-none, step_0}
 use Rattle.explicit_batches.proofs.AtSlot.{slotted}
+
+-- what is unwrapped of an answer that is no refusal, whatever stands by for one
+pub unwrapped : {A : Type 0} (r : Result A Refusal) (d f : A) → said r ≡ success f → result_unwrap_or r d ≡ f
+unwrapped (Ok a) d f e = ap (value_in f) e
+unwrapped (Err n) d f e = true-not-false (sym (ap success? e))
 
 -- ---- in a row
 

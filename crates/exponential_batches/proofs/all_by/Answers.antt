@@ -3,14 +3,19 @@
 -- ---- at the seat
 use Prim.Native.Nat.{◌^◌, ◌<◌}
 use mathlib.Core.Bool.{true}
+use mathlib.Core.Path.{refl, sym, ap, ◌∙◌}
 use native.Mathlib.Omega.{arith}
 use lib.ListN.{length, get_or, drop}
 use lib.Ieee.{Float, nan}
+use Rattle.refusals.specs.Refusals.{code}
+use Rattle.refusals.proofs.Numbers.{number-nonzero}
 use Rattle.directory.specs.View.{stores}
+use Rattle.seats.specs.Seats.{seating}
 use Rattle.exponential_slots.specs.Cells.{Cells, cells}
 use Rattle.value_map.specs.Calls.{Held, held}
 use Rattle.value_map.proofs.ExponentialOwes.{owed}
-use Rattle.batches.proofs.Ends.{cut-first, sure-by, by-none, by-takes, by-finite, by_fits, by-ends}
+use Rattle.batches.proofs.Batches.{stop-on}
+use Rattle.batches.proofs.Ends.{cut-first, sure-by, by-none, by-takes, by-finite, by-away, by_fits, by-ends}
 use Rattle.exponential_batches.proofs.all_by.Goals as goal
 
 pub returns-then-values-eq0 : goal.returns-then-values-eq0
@@ -19,24 +24,34 @@ returns-then-values-eq0 c =
     let a = c.args in
     by-none (owed a.size a.top) (true, true) a.limit (lent_map) a.h c.args.values.now c.if-values-eq0.true
 
-pub seat_by_if-seat-requires : goal.seat_by_if-seat-requires
-seat_by_if-seat-requires c k =
+pub seat_by_if-found-requires : goal.seat_by_if-found-requires
+seat_by_if-found-requires c k =
     let lent_map : Held Cells = let a = c.args in held a.d (stores a.sets.now a.entries.now a.order.now) (cells a.figures.now a.extremes.now a.pos.now a.neg.now) in
     let a = c.args in
-    sure-by (owed a.size a.top) (true, true) a.limit (lent_map) c.slots_of-slots.result c.unset_of-unset.result c.slots_of-slots.ensures c.unset_of-unset.ensures a.h (c.requires k)
+    sure-by (owed a.size a.top) (true, true) a.limit (lent_map) c.slots_of-slots.result (code c.unset_of-unset.result) c.slots_of-slots.ensures c.unset_of-unset.ensures a.h (c.requires k)
 
-pub take-got-requires : goal.take-got-requires
-take-got-requires c z =
+pub returns-in-Err : goal.returns-in-Err
+returns-in-Err c =
     let lent_map : Held Cells = let a = c.args in held a.d (stores a.sets.now a.entries.now a.order.now) (cells a.figures.now a.extremes.now a.pos.now a.neg.now) in
     let first : Float = get_or c.args.values.now 0 nan in
     let some : 0 < length c.args.values.now = omega (arith, c.if-values-eq0.false) in
     let a = c.args in
-    let k = by-takes (owed a.size a.top) (true, true) a.limit (lent_map) a.h (first) c.slots_of-slots.ensures c.takes-value.ensures c.unset_of-unset.ensures c.seat_by_if-seat.ensures a.known c.requires z in
+    by-away (owed a.size a.top) (true, true) a.limit (lent_map) a.h (first) c.slots_of-slots.ensures c.takes-value.ensures c.unset_of-unset.ensures
+    (sym (ap seating c.in-Err.is) ∙ c.seat_by_if-found.ensures) (number-nonzero c.in-Err.e) c.args.values.now (drop 1 c.args.values.now) (cut-first c.args.values.now nan (some))
+
+pub record_all-got-requires : goal.record_all-got-requires
+record_all-got-requires c =
+    let lent_map : Held Cells = let a = c.args in held a.d (stores a.sets.now a.entries.now a.order.now) (cells a.figures.now a.extremes.now a.pos.now a.neg.now) in
+    let first : Float = get_or c.args.values.now 0 nan in
+    let some : 0 < length c.args.values.now = omega (arith, c.if-values-eq0.false) in
+    let a = c.args in
+    let e = sym (ap seating c.in-Ok.is) ∙ c.seat_by_if-found.ensures in
+    let k = by-takes (owed a.size a.top) (true, true) a.limit (lent_map) a.h (first) c.slots_of-slots.ensures c.takes-value.ensures c.unset_of-unset.ensures e a.known c.requires refl in
     record {
       room = k.1;
       set = k.0;
       some = some;
-      first = by-finite (owed a.size a.top) (true, true) a.limit (lent_map) a.h (first) c.slots_of-slots.ensures c.takes-value.ensures c.unset_of-unset.ensures c.seat_by_if-seat.ensures z;
+      first = by-finite (owed a.size a.top) (true, true) a.limit (lent_map) a.h (first) c.slots_of-slots.ensures c.takes-value.ensures c.unset_of-unset.ensures e refl;
       series = k.2;
     }
 
@@ -46,8 +61,9 @@ finish_all-requires c k =
     let first : Float = get_or c.args.values.now 0 nan in
     let some : 0 < length c.args.values.now = omega (arith, c.if-values-eq0.false) in
     let a = c.args in
-    by_fits (owed a.size a.top) (true, true) a.limit (lent_map) a.h (first) c.slots_of-slots.ensures c.takes-value.ensures c.unset_of-unset.ensures c.seat_by_if-seat.ensures
-    c.args.values.now (drop 1 c.args.values.now) (cut-first c.args.values.now nan (some)) _ c.take-got.ensures k
+    let e = sym (ap seating c.in-Ok.is) ∙ c.seat_by_if-found.ensures in
+    by_fits (owed a.size a.top) (true, true) a.limit (lent_map) a.h (first) c.slots_of-slots.ensures c.takes-value.ensures c.unset_of-unset.ensures e
+    c.args.values.now (drop 1 c.args.values.now) (cut-first c.args.values.now nan (some)) _ (c.record_all-got.ensures ∙ sym (stop-on 0 _ _ refl)) k
 
 pub returns : goal.returns
 returns c =
@@ -56,5 +72,6 @@ returns c =
     let some : 0 < length c.args.values.now = omega (arith, c.if-values-eq0.false) in
     let last : c.args.d.last < 2 ^ 64 = omega (arith, c) in
     let a = c.args in
-    by-ends (owed a.size a.top) (true, true) a.limit (lent_map) a.h (first) c.slots_of-slots.ensures c.takes-value.ensures c.unset_of-unset.ensures c.seat_by_if-seat.ensures
-    c.args.values.now (drop 1 c.args.values.now) (cut-first c.args.values.now nan (some)) _ c.take-got.ensures (last) _ c.finish_all.ensures
+    let e = sym (ap seating c.in-Ok.is) ∙ c.seat_by_if-found.ensures in
+    by-ends (owed a.size a.top) (true, true) a.limit (lent_map) a.h (first) c.slots_of-slots.ensures c.takes-value.ensures c.unset_of-unset.ensures e
+    c.args.values.now (drop 1 c.args.values.now) (cut-first c.args.values.now nan (some)) _ (c.record_all-got.ensures ∙ sym (stop-on 0 _ _ refl)) (last) _ c.finish_all.ensures

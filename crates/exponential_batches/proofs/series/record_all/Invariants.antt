@@ -1,9 +1,4 @@
 -- `exponential_batches::series::record_all` meets its contract: what is recorded so far, and the values left, make the whole. Assumes nothing.
--- ---- in a turn
--- ---- refused
--- ---- taken
--- ---- the end
-use Prim.Native.Nat.{◌-◌, ◌≤◌}
 use mathlib.Core.Path.{◌≡◌}
 use lib.ListN.{length, drop}
 use Rattle.many.specs.Many.{each}
@@ -16,8 +11,5 @@ abbrev pub invariant-loop-i : goal.invariant-loop-i
 invariant-loop-i l =
     let s₀ : Series = record { head = l.initial.h; pos = l.initial.pos; neg = l.initial.neg } in
     let s : Series = record { head = l.h; pos = l.pos; neg = l.neg } in
-    (l.i ≤ length l.values) × (length l.pos ≡ length l.initial.pos) × (length l.neg ≡ length l.initial.neg) × Sound l.size l.top s
+    (length l.pos ≡ length l.initial.pos) × (length l.neg ≡ length l.initial.neg) × Sound l.size l.top s
     × (each (step l.size l.top) s₀ l.values ≡ later l.i (each (step l.size l.top) s (drop l.i l.values)))
-
-abbrev pub decreases-loop-i : goal.decreases-loop-i
-decreases-loop-i l = length l.values - l.i

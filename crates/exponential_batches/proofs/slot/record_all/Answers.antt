@@ -9,6 +9,9 @@ use native.Mathlib.Omega.{arith}
 use lib.ListN.{get_or}
 use lib.Ieee.{nan, binary64, fits}
 use lib.Ieee.Bits.{is_true}
+use Rattle.refusals.specs.Refusals.{number, code}
+use Rattle.refusals.proofs.Numbers.{number-nonzero}
+use Rattle.many.proofs.Refused.{not-refused}
 use Rattle.many.specs.Many.{Many, each}
 use Rattle.exponential.specs.declared.Head.{Head}
 use Rattle.exponential.specs.Inner.{Series}
@@ -23,18 +26,18 @@ use Rattle.exponential_batches.specs.Slot.{load}
 use Rattle.exponential_batches.proofs.AtSlot.{reads, sound-there, end, kept_off, kept_on, slotted}
 use Rattle.exponential_batches.proofs.slot.record_all.Goals as goal
 
-pub returns-then-no-ne0 : goal.returns-then-no-ne0
-returns-then-no-ne0 c =
+pub returns-in-Err : goal.returns-in-Err
+returns-in-Err c =
     let lent : Cells = let a = c.args in cells a.figures.now a.extremes.now a.pos.now a.neg.now in
     let a = c.args in
-    asked-stops (owed a.size a.top) (true, true) nan a.known a.x a.updated (lent) a.values.now c.requires c.refusal-no.result c.refusal-no.ensures c.if-no-ne0.true
+    asked-stops (owed a.size a.top) (true, true) nan a.known a.x a.updated (lent) a.values.now c.requires (number c.in-Err.e) (sym (ap code c.in-Err.is) ∙ c.refusal-asked.ensures) (number-nonzero c.in-Err.e)
 
 pub head_of-head-requires : goal.head_of-head-requires
 head_of-head-requires c =
     let lent : Cells = let a = c.args in cells a.figures.now a.extremes.now a.pos.now a.neg.now in
     let ready : let a = c.args in Ready (exponential_store a.size a.top) (true, true) a.x a.updated (lent) =
     let a = c.args in
-    asked-ready (owed a.size a.top) (true, true) nan a.known a.x a.updated (lent) a.values.now c.requires c.refusal-no.result c.refusal-no.ensures c.if-no-ne0.false in
+    asked-ready (owed a.size a.top) (true, true) nan a.known a.x a.updated (lent) a.values.now c.requires (code c.refusal-asked.result) c.refusal-asked.ensures (not-refused c.refusal-asked.result c.in_default.not-Err) in
     let a = c.args in
     reads a.size a.top (lent) a.x a.updated (ready)
 
@@ -54,7 +57,7 @@ record_all-run-requires c =
     let under : Head → Series = λ y. let a = c.args in let l = load a.size a.top (lent) a.x a.updated in record { head = y; pos = l.pos; neg = l.neg } in
     let ready : let a = c.args in Ready (exponential_store a.size a.top) (true, true) a.x a.updated (lent) =
     let a = c.args in
-    asked-ready (owed a.size a.top) (true, true) nan a.known a.x a.updated (lent) a.values.now c.requires c.refusal-no.result c.refusal-no.ensures c.if-no-ne0.false in
+    asked-ready (owed a.size a.top) (true, true) nan a.known a.x a.updated (lent) a.values.now c.requires (code c.refusal-asked.result) c.refusal-asked.ensures (not-refused c.refusal-asked.result c.in_default.not-Err) in
     let a = c.args in
     subst (λ (y : Head). Sound a.size a.top (under y)) (sym c.head_of-head.ensures) (sound-there a.size a.top (lent) a.x a.updated (ready))
 
@@ -67,9 +70,9 @@ returns c =
     let lent : Cells = let a = c.args in cells a.figures.now a.extremes.now a.pos.now a.neg.now in
     let ready : let a = c.args in Ready (exponential_store a.size a.top) (true, true) a.x a.updated (lent) =
     let a = c.args in
-    asked-ready (owed a.size a.top) (true, true) nan a.known a.x a.updated (lent) a.values.now c.requires c.refusal-no.result c.refusal-no.ensures c.if-no-ne0.false in
+    asked-ready (owed a.size a.top) (true, true) nan a.known a.x a.updated (lent) a.values.now c.requires (code c.refusal-asked.result) c.refusal-asked.ensures (not-refused c.refusal-asked.result c.in_default.not-Err) in
     let known : (i : ℕ) → fits binary64 (get_or c.args.values.now i nan) ≡ true = λ i. is_true (fits binary64 (get_or c.args.values.now i nan)) (c.shared_slice_known-1.given i) in
-    let gone : Many Series = record { taken = c.record_all-run.result.taken; no = c.record_all-run.result.no; left = record { head = c.record_all-run.result.head; pos = c.record_all-run.new.pos; neg = c.record_all-run.new.neg } } in
+    let gone : Many Series = record { taken = c.record_all-run.result.taken; no = code c.record_all-run.result.end; left = record { head = c.record_all-run.result.head; pos = c.record_all-run.new.pos; neg = c.record_all-run.new.neg } } in
     let under : Head → Series = λ y. let a = c.args in let l = load a.size a.top (lent) a.x a.updated in record { head = y; pos = l.pos; neg = l.neg } in
     let all : let a = c.args in
     gone ≡ each (step a.size a.top) (load a.size a.top (lent) a.x a.updated) a.values.now =

@@ -67,22 +67,23 @@ pub fn delta(
         (held d (stores sets.old entries.old order.old) values.now)
         (output out_sets.old out_values.old) }
 {
-    let no = number(
+    match number(
         known, false, s, d, sets, entries, order, values, out_sets, out_values,
-    );
-    if let Err(e) = no {
-        return Reply {
+    ) {
+        Err(e) => Reply {
             answer: Err(e),
             dir: d,
-        };
-    }
-    let end = crate::walk::list(
-        false, d.used, sets, entries, order, values, out_sets, out_values,
-    );
-    let dir = sweep::sweep(d, sets, entries, order);
-    Reply {
-        answer: Ok(end),
-        dir,
+        },
+        Ok(()) => {
+            let end = crate::walk::list(
+                false, d.used, sets, entries, order, values, out_sets, out_values,
+            );
+            let dir = sweep::sweep(d, sets, entries, order);
+            Reply {
+                answer: Ok(end),
+                dir,
+            }
+        }
     }
 }
 
@@ -108,7 +109,8 @@ pub fn cumulative(
     number(
         known, true, s, d, sets, entries, order, values, out_sets, out_values,
     )?;
-    Ok(crate::walk::list(
+    let end = crate::walk::list(
         true, d.used, sets, entries, order, values, out_sets, out_values,
-    ))
+    );
+    Ok(end)
 }

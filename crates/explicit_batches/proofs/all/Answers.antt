@@ -2,7 +2,7 @@
 -- ---- before the seat
 -- ---- at the seat
 use Prim.Native.Nat.{ℕ, ◌+◌, ◌^◌, ◌≤◌, ◌<◌}
-use mathlib.Core.Path.{◌≡◌}
+use mathlib.Core.Path.{◌≡◌, refl, sym, ap, ◌∙◌}
 use mathlib.Core.Bool.{true}
 use mathlib.Core.List.{List}
 use mathlib.Core.Option.{Option}
@@ -15,11 +15,15 @@ use Rattle.tally.specs.Sets.{Set}
 use Rattle.sets.specs.Sorted.{given, filter_of}
 use Rattle.seats.proofs.Bars.{row-seated}
 use Rattle.directory.specs.View.{stores}
+use Rattle.refusals.specs.Refusals.{code}
+use Rattle.refusals.proofs.Numbers.{number-nonzero}
+use Rattle.seats.specs.Seats.{seating}
+use Rattle.batches.proofs.Batches.{stop-on}
 use Rattle.explicit_slots.specs.Cells.{Cells, cells}
 use Rattle.value_map.specs.Calls.{Held, held}
 use Rattle.value_map.specs.Explicit.{cells_suffice}
 use Rattle.value_map.proofs.ExplicitOwes.{owed}
-use Rattle.batches.proofs.Ends.{cut-first, sure_for, for-none, for-takes, for-finite, for-fits, for-ends}
+use Rattle.batches.proofs.Ends.{cut-first, sure_for, for-none, for-takes, for-finite, for-away, for-fits, for-ends}
 use Rattle.explicit_batches.proofs.Suffices.{slots_suffice}
 use Rattle.explicit_batches.proofs.all.Goals as goal
 
@@ -34,8 +38,8 @@ returns-then-values-eq0 c =
 pub unset_if-unset-requires : goal.unset_if-unset-requires
 unset_if-unset-requires c k = (c.requires k).0.set
 
-pub seat_if-seat-requires : goal.seat_if-seat-requires
-seat_if-seat-requires c k =
+pub seat_if-found-requires : goal.seat_if-found-requires
+seat_if-found-requires c k =
     let lent_map : Held Cells = let a = c.args in held a.d (stores a.sets.now a.entries.now a.order.now) (cells a.totals.now a.extremes.now a.counts.now) in
     let few : length c.args.totals.now ≤ 18446744073709551615 = omega (arith, c) in
     let suffices : leb (c.args.limit + 2) c.slots_if-slots.result ≡ cells_suffice c.args.bounds.now c.args.limit (lent_map).cells =
@@ -45,10 +49,10 @@ seat_if-seat-requires c k =
     let filter : Option (List ℕ) = filter_of c.args.present c.args.filter.now in
     let attributes : Set = given c.args.attrs.now in
     let a = c.args in
-    sure_for (owed a.bounds.now) (true, true) a.limit (lent_map) c.slots_if-slots.result c.unset_if-unset.result (suffices) c.unset_if-unset.ensures (filter) (attributes) (c.requires k)
+    sure_for (owed a.bounds.now) (true, true) a.limit (lent_map) c.slots_if-slots.result (code c.unset_if-unset.result) (suffices) c.unset_if-unset.ensures (filter) (attributes) (c.requires k)
 
-pub take_all-got-requires : goal.take_all-got-requires
-take_all-got-requires c z =
+pub returns-in-Err : goal.returns-in-Err
+returns-in-Err c =
     let filter : Option (List ℕ) = filter_of c.args.present c.args.filter.now in
     let lent_map : Held Cells = let a = c.args in held a.d (stores a.sets.now a.entries.now a.order.now) (cells a.totals.now a.extremes.now a.counts.now) in
     let attributes : Set = given c.args.attrs.now in
@@ -60,12 +64,29 @@ take_all-got-requires c z =
     c.cells_suffice-suffice.ensures c.slots_if-slots.ensures in
     let some : 0 < length c.args.values.now = omega (arith, c.if-values-eq0.false) in
     let a = c.args in
-    let k = for-takes (owed a.bounds.now) (true, true) a.limit (filter) (lent_map) (attributes) c.all_lent.ensures (first) (suffices) c.takes-value.ensures c.unset_if-unset.ensures c.seat_if-seat.ensures.value a.known c.requires z in
+    for-away (owed a.bounds.now) (true, true) a.limit (filter) (lent_map) (attributes) c.all_lent.ensures (first) (suffices) c.takes-value.ensures c.unset_if-unset.ensures
+    (sym (ap seating c.in-Err.is) ∙ c.seat_if-found.ensures.value) (number-nonzero c.in-Err.e) c.args.values.now (drop 1 c.args.values.now) (cut-first c.args.values.now nan (some))
+
+pub record_all-got-requires : goal.record_all-got-requires
+record_all-got-requires c =
+    let filter : Option (List ℕ) = filter_of c.args.present c.args.filter.now in
+    let lent_map : Held Cells = let a = c.args in held a.d (stores a.sets.now a.entries.now a.order.now) (cells a.totals.now a.extremes.now a.counts.now) in
+    let attributes : Set = given c.args.attrs.now in
+    let first : Float = get_or c.args.values.now 0 nan in
+    let few : length c.args.totals.now ≤ 18446744073709551615 = omega (arith, c) in
+    let suffices : leb (c.args.limit + 2) c.slots_if-slots.result ≡ cells_suffice c.args.bounds.now c.args.limit (lent_map).cells =
+    let a = c.args in
+    slots_suffice (bucket_count a.bounds.now) a.limit (length a.counts.now) (length a.totals.now) (length a.extremes.now) c.cells_suffice-suffice.result c.slots_if-slots.result (few)
+    c.cells_suffice-suffice.ensures c.slots_if-slots.ensures in
+    let some : 0 < length c.args.values.now = omega (arith, c.if-values-eq0.false) in
+    let a = c.args in
+    let e = sym (ap seating c.in-Ok.is) ∙ c.seat_if-found.ensures.value in
+    let k = for-takes (owed a.bounds.now) (true, true) a.limit (filter) (lent_map) (attributes) c.all_lent.ensures (first) (suffices) c.takes-value.ensures c.unset_if-unset.ensures e a.known c.requires refl in
     record {
       room = k.1;
       set = k.0;
       some = some;
-      first = for-finite (owed a.bounds.now) (true, true) a.limit (filter) (lent_map) (attributes) c.all_lent.ensures (first) (suffices) c.takes-value.ensures c.unset_if-unset.ensures c.seat_if-seat.ensures.value z;
+      first = for-finite (owed a.bounds.now) (true, true) a.limit (filter) (lent_map) (attributes) c.all_lent.ensures (first) (suffices) c.takes-value.ensures c.unset_if-unset.ensures e refl;
       series = k.2;
     }
 
@@ -82,8 +103,9 @@ finish_all-requires c k =
     c.cells_suffice-suffice.ensures c.slots_if-slots.ensures in
     let some : 0 < length c.args.values.now = omega (arith, c.if-values-eq0.false) in
     let a = c.args in
-    for-fits (owed a.bounds.now) (true, true) a.limit (filter) (lent_map) (attributes) c.all_lent.ensures (first) (suffices) c.takes-value.ensures c.unset_if-unset.ensures c.seat_if-seat.ensures.value
-    c.args.values.now (drop 1 c.args.values.now) (cut-first c.args.values.now nan (some)) _ c.take_all-got.ensures k
+    let e = sym (ap seating c.in-Ok.is) ∙ c.seat_if-found.ensures.value in
+    for-fits (owed a.bounds.now) (true, true) a.limit (filter) (lent_map) (attributes) c.all_lent.ensures (first) (suffices) c.takes-value.ensures c.unset_if-unset.ensures e
+    c.args.values.now (drop 1 c.args.values.now) (cut-first c.args.values.now nan (some)) _ (c.record_all-got.ensures ∙ sym (stop-on 0 _ _ refl)) k
 
 pub returns : goal.returns
 returns c =
@@ -99,5 +121,6 @@ returns c =
     let some : 0 < length c.args.values.now = omega (arith, c.if-values-eq0.false) in
     let last : c.args.d.last < 2 ^ 64 = omega (arith, c) in
     let a = c.args in
-    for-ends (owed a.bounds.now) (true, true) a.limit (filter) (lent_map) (attributes) c.all_lent.ensures (first) (suffices) c.takes-value.ensures c.unset_if-unset.ensures c.seat_if-seat.ensures.value
-    c.args.values.now (drop 1 c.args.values.now) (cut-first c.args.values.now nan (some)) _ c.take_all-got.ensures (last) _ (row-seated _ _ _ _ _ c.seat_if-seat.ensures.value _ c.seat_if-seat.ensures.row_after) _ c.finish_all.ensures
+    let e = sym (ap seating c.in-Ok.is) ∙ c.seat_if-found.ensures.value in
+    for-ends (owed a.bounds.now) (true, true) a.limit (filter) (lent_map) (attributes) c.all_lent.ensures (first) (suffices) c.takes-value.ensures c.unset_if-unset.ensures e
+    c.args.values.now (drop 1 c.args.values.now) (cut-first c.args.values.now nan (some)) _ (c.record_all-got.ensures ∙ sym (stop-on 0 _ _ refl)) (last) _ (row-seated _ _ _ _ _ e _ c.seat_if-found.ensures.row_after) _ c.finish_all.ensures

@@ -2,7 +2,7 @@
 -- ---- before the seat
 -- ---- at the seat
 use Prim.Native.Nat.{◌+◌, ◌^◌, ◌≤◌, ◌<◌}
-use mathlib.Core.Path.{◌≡◌}
+use mathlib.Core.Path.{◌≡◌, refl, sym, ap, ◌∙◌}
 use mathlib.Core.Bool.{true}
 use native.Mathlib.Omega.{arith}
 use lib.Dec.{leb}
@@ -10,11 +10,15 @@ use lib.ListN.{length, get_or, drop}
 use lib.Ieee.{Float, nan}
 use Rattle.points.specs.Explicit.{bucket_count}
 use Rattle.directory.specs.View.{stores}
+use Rattle.refusals.specs.Refusals.{code}
+use Rattle.refusals.proofs.Numbers.{number-nonzero}
+use Rattle.seats.specs.Seats.{seating}
+use Rattle.batches.proofs.Batches.{stop-on}
 use Rattle.explicit_slots.specs.Cells.{Cells, cells}
 use Rattle.value_map.specs.Calls.{Held, held}
 use Rattle.value_map.specs.Explicit.{cells_suffice}
 use Rattle.value_map.proofs.ExplicitOwes.{owed}
-use Rattle.batches.proofs.Ends.{cut-first, sure-by, by-none, by-takes, by-finite, by_fits, by-ends}
+use Rattle.batches.proofs.Ends.{cut-first, sure-by, by-none, by-takes, by-finite, by-away, by_fits, by-ends}
 use Rattle.explicit_batches.proofs.Suffices.{slots_suffice}
 use Rattle.explicit_batches.proofs.all_by.Goals as goal
 
@@ -27,8 +31,8 @@ returns-then-values-eq0 c =
 pub unset_if-unset-requires : goal.unset_if-unset-requires
 unset_if-unset-requires c k = (c.requires k).0.set
 
-pub seat_by_if-seat-requires : goal.seat_by_if-seat-requires
-seat_by_if-seat-requires c k =
+pub seat_by_if-found-requires : goal.seat_by_if-found-requires
+seat_by_if-found-requires c k =
     let lent_map : Held Cells = let a = c.args in held a.d (stores a.sets.now a.entries.now a.order.now) (cells a.totals.now a.extremes.now a.counts.now) in
     let few : length c.args.totals.now ≤ 18446744073709551615 = omega (arith, c) in
     let suffices : leb (c.args.limit + 2) c.slots_if-slots.result ≡ cells_suffice c.args.bounds.now c.args.limit (lent_map).cells =
@@ -36,10 +40,10 @@ seat_by_if-seat-requires c k =
     slots_suffice (bucket_count a.bounds.now) a.limit (length a.counts.now) (length a.totals.now) (length a.extremes.now) c.cells_suffice-suffice.result c.slots_if-slots.result (few)
     c.cells_suffice-suffice.ensures c.slots_if-slots.ensures in
     let a = c.args in
-    sure-by (owed a.bounds.now) (true, true) a.limit (lent_map) c.slots_if-slots.result c.unset_if-unset.result (suffices) c.unset_if-unset.ensures a.h (c.requires k)
+    sure-by (owed a.bounds.now) (true, true) a.limit (lent_map) c.slots_if-slots.result (code c.unset_if-unset.result) (suffices) c.unset_if-unset.ensures a.h (c.requires k)
 
-pub take_all-got-requires : goal.take_all-got-requires
-take_all-got-requires c z =
+pub returns-in-Err : goal.returns-in-Err
+returns-in-Err c =
     let lent_map : Held Cells = let a = c.args in held a.d (stores a.sets.now a.entries.now a.order.now) (cells a.totals.now a.extremes.now a.counts.now) in
     let first : Float = get_or c.args.values.now 0 nan in
     let few : length c.args.totals.now ≤ 18446744073709551615 = omega (arith, c) in
@@ -49,12 +53,27 @@ take_all-got-requires c z =
     c.cells_suffice-suffice.ensures c.slots_if-slots.ensures in
     let some : 0 < length c.args.values.now = omega (arith, c.if-values-eq0.false) in
     let a = c.args in
-    let k = by-takes (owed a.bounds.now) (true, true) a.limit (lent_map) a.h (first) (suffices) c.takes-value.ensures c.unset_if-unset.ensures c.seat_by_if-seat.ensures a.known c.requires z in
+    by-away (owed a.bounds.now) (true, true) a.limit (lent_map) a.h (first) (suffices) c.takes-value.ensures c.unset_if-unset.ensures
+    (sym (ap seating c.in-Err.is) ∙ c.seat_by_if-found.ensures) (number-nonzero c.in-Err.e) c.args.values.now (drop 1 c.args.values.now) (cut-first c.args.values.now nan (some))
+
+pub record_all-got-requires : goal.record_all-got-requires
+record_all-got-requires c =
+    let lent_map : Held Cells = let a = c.args in held a.d (stores a.sets.now a.entries.now a.order.now) (cells a.totals.now a.extremes.now a.counts.now) in
+    let first : Float = get_or c.args.values.now 0 nan in
+    let few : length c.args.totals.now ≤ 18446744073709551615 = omega (arith, c) in
+    let suffices : leb (c.args.limit + 2) c.slots_if-slots.result ≡ cells_suffice c.args.bounds.now c.args.limit (lent_map).cells =
+    let a = c.args in
+    slots_suffice (bucket_count a.bounds.now) a.limit (length a.counts.now) (length a.totals.now) (length a.extremes.now) c.cells_suffice-suffice.result c.slots_if-slots.result (few)
+    c.cells_suffice-suffice.ensures c.slots_if-slots.ensures in
+    let some : 0 < length c.args.values.now = omega (arith, c.if-values-eq0.false) in
+    let a = c.args in
+    let e = sym (ap seating c.in-Ok.is) ∙ c.seat_by_if-found.ensures in
+    let k = by-takes (owed a.bounds.now) (true, true) a.limit (lent_map) a.h (first) (suffices) c.takes-value.ensures c.unset_if-unset.ensures e a.known c.requires refl in
     record {
       room = k.1;
       set = k.0;
       some = some;
-      first = by-finite (owed a.bounds.now) (true, true) a.limit (lent_map) a.h (first) (suffices) c.takes-value.ensures c.unset_if-unset.ensures c.seat_by_if-seat.ensures z;
+      first = by-finite (owed a.bounds.now) (true, true) a.limit (lent_map) a.h (first) (suffices) c.takes-value.ensures c.unset_if-unset.ensures e refl;
       series = k.2;
     }
 
@@ -69,8 +88,9 @@ finish_all-requires c k =
     c.cells_suffice-suffice.ensures c.slots_if-slots.ensures in
     let some : 0 < length c.args.values.now = omega (arith, c.if-values-eq0.false) in
     let a = c.args in
-    by_fits (owed a.bounds.now) (true, true) a.limit (lent_map) a.h (first) (suffices) c.takes-value.ensures c.unset_if-unset.ensures c.seat_by_if-seat.ensures
-    c.args.values.now (drop 1 c.args.values.now) (cut-first c.args.values.now nan (some)) _ c.take_all-got.ensures k
+    let e = sym (ap seating c.in-Ok.is) ∙ c.seat_by_if-found.ensures in
+    by_fits (owed a.bounds.now) (true, true) a.limit (lent_map) a.h (first) (suffices) c.takes-value.ensures c.unset_if-unset.ensures e
+    c.args.values.now (drop 1 c.args.values.now) (cut-first c.args.values.now nan (some)) _ (c.record_all-got.ensures ∙ sym (stop-on 0 _ _ refl)) k
 
 pub returns : goal.returns
 returns c =
@@ -84,5 +104,6 @@ returns c =
     let some : 0 < length c.args.values.now = omega (arith, c.if-values-eq0.false) in
     let last : c.args.d.last < 2 ^ 64 = omega (arith, c) in
     let a = c.args in
-    by-ends (owed a.bounds.now) (true, true) a.limit (lent_map) a.h (first) (suffices) c.takes-value.ensures c.unset_if-unset.ensures c.seat_by_if-seat.ensures
-    c.args.values.now (drop 1 c.args.values.now) (cut-first c.args.values.now nan (some)) _ c.take_all-got.ensures (last) _ c.finish_all.ensures
+    let e = sym (ap seating c.in-Ok.is) ∙ c.seat_by_if-found.ensures in
+    by-ends (owed a.bounds.now) (true, true) a.limit (lent_map) a.h (first) (suffices) c.takes-value.ensures c.unset_if-unset.ensures e
+    c.args.values.now (drop 1 c.args.values.now) (cut-first c.args.values.now nan (some)) _ (c.record_all-got.ensures ∙ sym (stop-on 0 _ _ refl)) (last) _ c.finish_all.ensures

@@ -2,7 +2,7 @@
 -- ---- before the seat
 -- ---- at the seat
 use Prim.Native.Nat.{◌+◌, ◌^◌, ◌≤◌, ◌<◌}
-use mathlib.Core.Path.{◌≡◌, ap, ◌∙◌}
+use mathlib.Core.Path.{◌≡◌, ap, ◌∙◌, refl, sym}
 use mathlib.Core.Bool.{true}
 use native.Mathlib.Omega.{arith}
 use lib.Dec.{leb}
@@ -12,11 +12,15 @@ use Rattle.integers.proofs.Range as Range
 use Rattle.points.specs.Explicit.{bucket_count}
 use Rattle.kinds.specs.Wholes.{wholes}
 use Rattle.directory.specs.View.{stores}
+use Rattle.refusals.specs.Refusals.{code}
+use Rattle.refusals.proofs.Numbers.{number-nonzero}
+use Rattle.seats.specs.Seats.{seating}
+use Rattle.batches.proofs.Batches.{stop-on}
 use Rattle.explicit_whole_slots.specs.Cells.{Cells, cells}
 use Rattle.value_map.specs.Calls.{Held, held}
 use Rattle.whole_map.specs.Explicit.{cells_suffice}
 use Rattle.whole_map.proofs.ExplicitOwes.{owed}
-use Rattle.batches.proofs.Ends.{cut-first, sure-by, by-none, by-takes, by-finite, by_fits, by-ends}
+use Rattle.batches.proofs.Ends.{cut-first, sure-by, by-none, by-takes, by-finite, by-away, by_fits, by-ends}
 use Rattle.explicit_batches.proofs.Suffices.{slots_suffice}
 use Rattle.explicit_whole_batches.proofs.all_by.Goals as goal
 
@@ -29,8 +33,8 @@ returns-then-values-eq0 c =
 pub unset_if-unset-requires : goal.unset_if-unset-requires
 unset_if-unset-requires c k = (c.requires k).0.set
 
-pub seat_by_if-seat-requires : goal.seat_by_if-seat-requires
-seat_by_if-seat-requires c k =
+pub seat_by_if-found-requires : goal.seat_by_if-found-requires
+seat_by_if-found-requires c k =
     let lent_map : Held Cells = let a = c.args in held a.d (stores a.sets.now a.entries.now a.order.now) (cells a.totals.now a.extremes.now a.counts.now) in
     let few : length c.args.totals.now ≤ 18446744073709551615 = omega (arith, c) in
     let suffices : leb (c.args.limit + 2) c.slots_if-slots.result ≡ cells_suffice c.args.bounds.now c.args.limit (lent_map).cells =
@@ -38,10 +42,10 @@ seat_by_if-seat-requires c k =
     slots_suffice (bucket_count a.bounds.now) a.limit (length a.counts.now) (length a.totals.now) (length a.extremes.now) c.cells_suffice-suffice.result c.slots_if-slots.result (few)
     c.cells_suffice-suffice.ensures c.slots_if-slots.ensures in
     let a = c.args in
-    sure-by (owed a.bounds.now a.sums) true a.limit (lent_map) c.slots_if-slots.result c.unset_if-unset.result (suffices) c.unset_if-unset.ensures a.h (c.requires k)
+    sure-by (owed a.bounds.now a.sums) true a.limit (lent_map) c.slots_if-slots.result (code c.unset_if-unset.result) (suffices) c.unset_if-unset.ensures a.h (c.requires k)
 
-pub take_all-got-requires : goal.take_all-got-requires
-take_all-got-requires c z =
+pub returns-in-Err : goal.returns-in-Err
+returns-in-Err c =
     let lent_map : Held Cells = let a = c.args in held a.d (stores a.sets.now a.entries.now a.order.now) (cells a.totals.now a.extremes.now a.counts.now) in
     let first : ℤ = get_or c.args.values.now 0 (pos 0) in
     let few : length c.args.totals.now ≤ 18446744073709551615 = omega (arith, c) in
@@ -52,12 +56,28 @@ take_all-got-requires c z =
     let first_taken : c.takes-value.result ≡ wholes.finite (first) = c.takes-value.ensures ∙ ap wholes.finite (Range.held (first) (record { sfits = c.takes-arg-1.given })) in
     let some : 0 < length c.args.values.now = omega (arith, c.if-values-eq0.false) in
     let a = c.args in
-    let k = by-takes (owed a.bounds.now a.sums) true a.limit (lent_map) a.h (first) (suffices) (first_taken) c.unset_if-unset.ensures c.seat_by_if-seat.ensures a.known c.requires z in
+    by-away (owed a.bounds.now a.sums) true a.limit (lent_map) a.h (first) (suffices) (first_taken) c.unset_if-unset.ensures
+    (sym (ap seating c.in-Err.is) ∙ c.seat_by_if-found.ensures) (number-nonzero c.in-Err.e) c.args.values.now (drop 1 c.args.values.now) (cut-first c.args.values.now (pos 0) (some))
+
+pub record_all-got-requires : goal.record_all-got-requires
+record_all-got-requires c =
+    let lent_map : Held Cells = let a = c.args in held a.d (stores a.sets.now a.entries.now a.order.now) (cells a.totals.now a.extremes.now a.counts.now) in
+    let first : ℤ = get_or c.args.values.now 0 (pos 0) in
+    let few : length c.args.totals.now ≤ 18446744073709551615 = omega (arith, c) in
+    let suffices : leb (c.args.limit + 2) c.slots_if-slots.result ≡ cells_suffice c.args.bounds.now c.args.limit (lent_map).cells =
+    let a = c.args in
+    slots_suffice (bucket_count a.bounds.now) a.limit (length a.counts.now) (length a.totals.now) (length a.extremes.now) c.cells_suffice-suffice.result c.slots_if-slots.result (few)
+    c.cells_suffice-suffice.ensures c.slots_if-slots.ensures in
+    let first_taken : c.takes-value.result ≡ wholes.finite (first) = c.takes-value.ensures ∙ ap wholes.finite (Range.held (first) (record { sfits = c.takes-arg-1.given })) in
+    let some : 0 < length c.args.values.now = omega (arith, c.if-values-eq0.false) in
+    let a = c.args in
+    let e = sym (ap seating c.in-Ok.is) ∙ c.seat_by_if-found.ensures in
+    let k = by-takes (owed a.bounds.now a.sums) true a.limit (lent_map) a.h (first) (suffices) (first_taken) c.unset_if-unset.ensures e a.known c.requires refl in
     record {
       room = k.1;
       set = k.0;
       some = some;
-      first = by-finite (owed a.bounds.now a.sums) true a.limit (lent_map) a.h (first) (suffices) (first_taken) c.unset_if-unset.ensures c.seat_by_if-seat.ensures z;
+      first = by-finite (owed a.bounds.now a.sums) true a.limit (lent_map) a.h (first) (suffices) (first_taken) c.unset_if-unset.ensures e refl;
       series = k.2;
     }
 
@@ -73,8 +93,9 @@ finish_all-requires c k =
     let first_taken : c.takes-value.result ≡ wholes.finite (first) = c.takes-value.ensures ∙ ap wholes.finite (Range.held (first) (record { sfits = c.takes-arg-1.given })) in
     let some : 0 < length c.args.values.now = omega (arith, c.if-values-eq0.false) in
     let a = c.args in
-    by_fits (owed a.bounds.now a.sums) true a.limit (lent_map) a.h (first) (suffices) (first_taken) c.unset_if-unset.ensures c.seat_by_if-seat.ensures
-    c.args.values.now (drop 1 c.args.values.now) (cut-first c.args.values.now (pos 0) (some)) _ c.take_all-got.ensures k
+    let e = sym (ap seating c.in-Ok.is) ∙ c.seat_by_if-found.ensures in
+    by_fits (owed a.bounds.now a.sums) true a.limit (lent_map) a.h (first) (suffices) (first_taken) c.unset_if-unset.ensures e
+    c.args.values.now (drop 1 c.args.values.now) (cut-first c.args.values.now (pos 0) (some)) _ (c.record_all-got.ensures ∙ sym (stop-on 0 _ _ refl)) k
 
 pub returns : goal.returns
 returns c =
@@ -89,5 +110,6 @@ returns c =
     let some : 0 < length c.args.values.now = omega (arith, c.if-values-eq0.false) in
     let last : c.args.d.last < 2 ^ 64 = omega (arith, c) in
     let a = c.args in
-    by-ends (owed a.bounds.now a.sums) true a.limit (lent_map) a.h (first) (suffices) (first_taken) c.unset_if-unset.ensures c.seat_by_if-seat.ensures
-    c.args.values.now (drop 1 c.args.values.now) (cut-first c.args.values.now (pos 0) (some)) _ c.take_all-got.ensures (last) _ c.finish_all.ensures
+    let e = sym (ap seating c.in-Ok.is) ∙ c.seat_by_if-found.ensures in
+    by-ends (owed a.bounds.now a.sums) true a.limit (lent_map) a.h (first) (suffices) (first_taken) c.unset_if-unset.ensures e
+    c.args.values.now (drop 1 c.args.values.now) (cut-first c.args.values.now (pos 0) (some)) _ (c.record_all-got.ensures ∙ sym (stop-on 0 _ _ refl)) (last) _ c.finish_all.ensures

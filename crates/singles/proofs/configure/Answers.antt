@@ -5,7 +5,8 @@ use Rattle.directory.specs.View.{stores}
 use Rattle.value_map.proofs.Cases.{start_is}
 use Rattle.collecting.proofs.Configures.{configured-is}
 use Rattle.singles.specs.Stores.{single_store}
-use Rattle.singles.specs.Configured.{said, configured}
+use Rattle.refusals.specs.Refusals.{said}
+use Rattle.singles.specs.Configured.{configured}
 use Rattle.singles.proofs.configure.Goals as goal
 
 pub returns : goal.returns

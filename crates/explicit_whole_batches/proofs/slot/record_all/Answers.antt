@@ -6,6 +6,7 @@ use native.Mathlib.Omega.{arith}
 use lib.ListN.{length}
 use Rattle.rows.specs.Parts.{part_at}
 use Rattle.rows.proofs.Parts.{part_length}
+use Rattle.refusals.specs.Refusals.{code}
 use Rattle.many.specs.Many.{Many}
 use Rattle.points.specs.Explicit.{bucket_count}
 use Rattle.explicit_wholes.specs.declared.Head.{Head}
@@ -52,6 +53,6 @@ pub returns : goal.returns
 returns c =
     let lent : Cells = let a = c.args in cells a.totals.now a.extremes.now a.counts.now in
     let a = c.args in
-    let m : Many Series = record { taken = c.enter_all-run.result.taken; no = c.enter_all-run.result.no; left = record { head = c.enter_all-run.result.head; counts = c.enter_all-run.new.counts } } in
+    let m : Many Series = record { taken = c.enter_all-run.result.taken; no = code c.enter_all-run.result.end; left = record { head = c.enter_all-run.result.head; counts = c.enter_all-run.new.counts } } in
     kept_law a.known a.bounds.now a.sums a.x a.updated (lent) a.values.now c.requires c.bucket_count-n.result c.bucket_count-n.ensures
     m (c.enter_all-run.ensures ∙ ap (λ (y : Head). entering a.bounds.now a.sums a.updated y (part_at c.bucket_count-n.result a.counts.now a.x) a.values.now) c.head_with-head.ensures) c.keep.new.totals c.keep.ensures.totals_after c.keep.new.extremes c.keep.ensures.extremes_after

@@ -1,5 +1,4 @@
 -- `series::record_all` meets its contract: what is recorded so far, and the values left, make the whole. Assumes nothing.
-use Prim.Native.Nat.{◌-◌, ◌≤◌}
 use mathlib.Core.Path.{◌≡◌}
 use lib.ListN.{length, drop}
 use Rattle.many.specs.Many.{each}
@@ -9,10 +8,7 @@ use Rattle.exponential_whole_batches.proofs.series.record_all.Given as goal
 
 abbrev pub invariant-loop-i : goal.invariant-loop-i
 invariant-loop-i l =
-    (l.i ≤ length l.values) × (length l.pos ≡ length l.initial.pos) × (length l.neg ≡ length l.initial.neg)
+    (length l.pos ≡ length l.initial.pos) × (length l.neg ≡ length l.initial.neg)
     × Sound l.size l.top (record { head = l.h; pos = l.pos; neg = l.neg })
     × (each (step l.size l.top l.sums) (record { head = l.initial.h; pos = l.initial.pos; neg = l.initial.neg }) l.values
     ≡ later l.i (each (step l.size l.top l.sums) (record { head = l.h; pos = l.pos; neg = l.neg }) (drop l.i l.values)))
-
-abbrev pub decreases-loop-i : goal.decreases-loop-i
-decreases-loop-i l = length l.values - l.i

@@ -2,6 +2,7 @@
 use mathlib.Core.Path.{◌≡◌, sym, ap, subst, ◌∙◌}
 use mathlib.Core.Bool.{true}
 use Rattle.rows.specs.Parts.{part_at}
+use Rattle.refusals.specs.Refusals.{code}
 use Rattle.many.specs.Many.{Many, each}
 use Rattle.exponential_wholes.specs.declared.Head.{Head}
 use Rattle.exponential_whole_slots.specs.Cells.{Cells}
@@ -58,7 +59,7 @@ returns c =
     let a = c.args in
     ready a.known a.size a.top a.sums a.x a.updated (lent) a.values.now c.requires
     (sym c.agrees.ensures ∙ c.if-not-agrees.false) in
-    let gone : Many Series = record { taken = c.record_all-run.result.taken; no = c.record_all-run.result.no; left = record { head = c.record_all-run.result.head; pos = c.record_all-run.new.pos; neg = c.record_all-run.new.neg } } in
+    let gone : Many Series = record { taken = c.record_all-run.result.taken; no = code c.record_all-run.result.end; left = record { head = c.record_all-run.result.head; pos = c.record_all-run.new.pos; neg = c.record_all-run.new.neg } } in
     let under : Head → Series = λ y. let a = c.args in record { head = y; pos = part_at a.size (lent).pos a.x; neg = part_at a.size (lent).neg a.x } in
     let all : (let a = c.args in gone ≡ each (step a.size a.top a.sums) (load a.size a.top (lent) a.x a.updated) a.values.now) =
     let a = c.args in

@@ -1,5 +1,7 @@
 -- `singles::collect::delta` meets its contract. Assumes nothing.
-use mathlib.Core.Path.{sym, ◌∙◌}
+use mathlib.Core.Path.{refl, sym}
+use Rattle.refusals.specs.Refusals.{number}
+use Rattle.refusals.proofs.Numbers.{number-nonzero}
 use mathlib.Core.Bool.{false}
 use mathlib.Core.List.{List}
 use lib.Ieee.{Float}
@@ -16,15 +18,15 @@ use Rattle.singles.proofs.Owes.{owed}
 use Rattle.singles.proofs.Alike.{listable-sums}
 use Rattle.singles.proofs.collect.delta.Goals as goal
 
-pub number-no-requires : goal.number-no-requires
-number-no-requires c = c.requires
+pub number-requires : goal.number-requires
+number-requires c = c.requires
 
-pub returns-then-no-ne0 : goal.returns-then-no-ne0
-returns-then-no-ne0 c =
+pub returns-in-Err : goal.returns-in-Err
+returns-in-Err c =
     let L : Lister (single_store c.args.s.aggregation) = single_lister c.args.s.aggregation in
     let map : Held (List Float) = let a = c.args in held a.d (stores a.sets.now a.entries.now a.order.now) a.values.now in
     let out : Output = output c.args.out_sets.now c.args.out_values.now in
-    delta-refused (L) tt c.args.s.limit (map) (out) c.number-no.result c.number-no.ensures c.if-no-ne0.true
+    delta-refused (L) tt c.args.s.limit (map) (out) (number c.in-Err.e) c.in-Err.ensures (number-nonzero c.in-Err.e)
 
 pub list-end-requires : goal.list-end-requires
 list-end-requires c =
@@ -34,8 +36,7 @@ list-end-requires c =
     let a = c.args in
     let m = walked a.d.used a.sets.now a.entries.now a.order.now a.values.now in
     listable-sums a.s.aggregation false m (out)
-    (listable (L) (owed a.s.aggregation) tt false a.s.limit (map) (out) c.number-no.result c.number-no.ensures
-    c.if-no-ne0.false)
+    (listable (L) (owed a.s.aggregation) tt false a.s.limit (map) (out) 0 c.in-Ok.ensures refl)
 
 pub sweep-dir-requires : goal.sweep-dir-requires
 sweep-dir-requires c =
@@ -43,13 +44,13 @@ sweep-dir-requires c =
     let map : Held (List Float) = let a = c.args in held a.d (stores a.sets.now a.entries.now a.order.now) a.values.now in
     let out : Output = output c.args.out_sets.now c.args.out_values.now in
     let a = c.args in
-    sweeps (L) (owed a.s.aggregation) tt false a.s.limit (map) (out) c.number-no.result c.number-no.ensures c.if-no-ne0.false
+    sweeps (L) (owed a.s.aggregation) tt false a.s.limit (map) (out) 0 c.in-Ok.ensures refl
 
-pub returns : goal.returns
-returns c =
+pub returns-in-Ok : goal.returns-in-Ok
+returns-in-Ok c =
     let L : Lister (single_store c.args.s.aggregation) = single_lister c.args.s.aggregation in
     let map : Held (List Float) = let a = c.args in held a.d (stores a.sets.now a.entries.now a.order.now) a.values.now in
     let out : Output = output c.args.out_sets.now c.args.out_values.now in
     let a = c.args in
-    delta-done (L) tt a.s.limit (map) (out) _ _ (sym c.number-no.ensures ∙ c.if-no-ne0.false)
+    delta-done (L) tt a.s.limit (map) (out) _ _ (sym c.in-Ok.ensures)
     (listed-is (L) (owed a.s.aggregation) tt false a.s.limit (map) (out) _ c.list-end.ensures) c.sweep-dir.ensures

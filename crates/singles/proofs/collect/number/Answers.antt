@@ -2,6 +2,8 @@
 use Prim.Native.Nat.{ℕ}
 use mathlib.Core.Path.{refl, sym, ap, ◌∙◌}
 use mathlib.Core.List.{List}
+use Rattle.refusals.specs.Refusals.{number, code}
+use Rattle.refusals.proofs.Numbers.{number-nonzero, passed-on}
 use mathlib.Core.Option.{none}
 use lib.Ieee.{Float}
 use lib.ListN.{length}
@@ -9,7 +11,7 @@ use Rattle.directory.specs.View.{stores}
 use Rattle.value_map.specs.Calls.{Held, held}
 use Rattle.listing.specs.Listed.{Output}
 use Rattle.collecting.specs.Lister.{Lister}
-use Rattle.collecting.specs.Slots.{surveyed_by}
+use Rattle.collecting.specs.Slots.{survey_of, surveyed_by}
 use Rattle.collecting.proofs.Decides.{number-first, walk_here, number-then}
 use Rattle.collecting.proofs.Sure.{unbarred, walk-known}
 use Rattle.singles.specs.Stores.{single_store}
@@ -18,20 +20,21 @@ use Rattle.singles.proofs.Owes.{owed}
 use Rattle.singles.proofs.Alike.{words_long}
 use Rattle.singles.proofs.collect.number.Goals as goal
 
-pub barred-no-requires : goal.barred-no-requires
-barred-no-requires c k =
+pub barred-requires : goal.barred-requires
+barred-requires c k =
     let map : Held (List Float) = let a = c.args in held a.d (stores a.sets.now a.entries.now a.order.now) a.values.now in
     let a = c.args in
     unbarred (single_store a.s.aggregation) tt a.s.limit none (map) (c.requires k) c.suffices-room.result 0 c.suffices-room.ensures refl
 
-pub returns-then-no-ne0 : goal.returns-then-no-ne0
-returns-then-no-ne0 c =
+pub returns-in_err-barred : goal.returns-in_err-barred
+returns-in_err-barred c =
     let L : Lister (single_store c.args.s.aggregation) = single_lister c.args.s.aggregation in
     let map : Held (List Float) = let a = c.args in held a.d (stores a.sets.now a.entries.now a.order.now) a.values.now in
     let out : Output = output c.args.out_sets.now c.args.out_values.now in
     let a = c.args in
-    number-first (L) (owed a.s.aggregation) tt a.cumulative a.s.limit (map) (out)
-    c.suffices-room.result 0 c.barred-no.result c.suffices-room.ensures refl c.barred-no.ensures c.if-no-ne0.true
+    ap code (passed-on c.from_residual.result c.in_err-barred.field-0.0 c.from_residual.ensures.1)
+    ∙ number-first (L) (owed a.s.aggregation) tt a.cumulative a.s.limit (map) (out)
+    c.suffices-room.result 0 (number c.in_err-barred.field-0.0) c.suffices-room.ensures refl c.in_err-barred.ensures (number-nonzero c.in_err-barred.field-0.0)
 
 pub survey-found-requires : goal.survey-found-requires
 survey-found-requires c =
@@ -40,7 +43,7 @@ survey-found-requires c =
     let out : Output = output c.args.out_sets.now c.args.out_values.now in
     let a = c.args in record {
       walk = walk_here (L) (owed a.s.aggregation) tt a.cumulative a.s.limit (map) (out)
-          c.suffices-room.result 0 c.barred-no.result c.suffices-room.ensures refl c.barred-no.ensures c.if-no-ne0.false;
+          c.suffices-room.result 0 0 c.suffices-room.ensures refl c.in_ok-barred.ensures refl;
       all_known = walk-known (single_store a.s.aggregation) tt a.s.limit none (map) a.known c.requires tt (λ x. refl);
     }
 
@@ -51,7 +54,7 @@ returns c =
     let out : Output = output c.args.out_sets.now c.args.out_values.now in
     let a = c.args in
     number-then (L) (owed a.s.aggregation) tt a.cumulative a.s.limit (map) (out)
-    c.suffices-room.result 0 c.barred-no.result c.suffices-room.ensures refl c.barred-no.ensures c.if-no-ne0.false
-    tt (λ x. refl) c.survey-found.result c.number_of.result c.survey-found.ensures
+    c.suffices-room.result 0 0 c.suffices-room.ensures refl c.in_ok-barred.ensures refl
+    tt (λ x. refl) (survey_of c.survey-found.result) (code c.number_of.result) c.survey-found.ensures
     (c.number_of.ensures
-    ∙ ap (λ (n : ℕ). surveyed_by c.survey-found.result (length a.out_sets.now) n 0 0) (sym (words_long a.out_values.now)))
+    ∙ ap (λ (n : ℕ). surveyed_by (survey_of c.survey-found.result) (length a.out_sets.now) n 0 0) (sym (words_long a.out_values.now)))

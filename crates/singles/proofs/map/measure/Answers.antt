@@ -4,35 +4,38 @@ use mathlib.Core.List.{List}
 use lib.Ieee.{Float}
 use Rattle.sets.specs.Sorted.{given, filter_of}
 use Rattle.directory.specs.View.{stores}
+use Rattle.seats.specs.Seats.{seating}
+use Rattle.seats.specs.Inner.{Fits}
 use Rattle.seats.proofs.Bars.{row-seated}
 use Rattle.value_map.specs.Store.{Store}
 use Rattle.value_map.specs.Calls.{Held, held}
 use Rattle.value_map.proofs.Cases.{set_here}
-use Rattle.value_map.proofs.Ways.{took, Way, set-way, Sits, allows, ends}
+use Rattle.value_map.proofs.Ways.{finish-at, fits-done, took, Way, set-way, Sits, allows, ends}
 use Rattle.singles.specs.Kinds.{singles}
 use Rattle.singles.specs.Stores.{single_store}
 use Rattle.singles.proofs.Owes.{owed}
 use Rattle.singles.proofs.map.measure.Goals as goal
 
-pub take-no-requires : goal.take-no-requires
-take-no-requires c =
+pub take-done-requires : goal.take-done-requires
+take-done-requires c =
     let kind : Store (singles c.args.aggregation) = single_store c.args.aggregation in
     let lent_map : Held (List Float) = let a = c.args in held a.d (stores a.sets.now a.entries.now a.order.now) a.values.now in
     let way : Way (kind) c.args.limit (lent_map) = let a = c.args in set-way (owed a.aggregation) a.limit (lent_map) (filter_of a.present a.filter.now) (given a.attrs.now) in
-    let known : Sits (kind) (lent_map) c.args.v c.seat-seat.result =
+    let known : Sits (kind) (lent_map) c.args.v (seating c.seat-seat.result) =
     let a = c.args in
     allows (owed a.aggregation) a.limit (lent_map) a.v (way) 0 refl c.takes-value.ensures c.seat-seat.ensures.value in
     (known).takes
 
 pub finish-requires : goal.finish-requires
-finish-requires c z =
+finish-requires c =
     let kind : Store (singles c.args.aggregation) = single_store c.args.aggregation in
     let lent_map : Held (List Float) = let a = c.args in held a.d (stores a.sets.now a.entries.now a.order.now) a.values.now in
     let way : Way (kind) c.args.limit (lent_map) = let a = c.args in set-way (owed a.aggregation) a.limit (lent_map) (filter_of a.present a.filter.now) (given a.attrs.now) in
-    let known : Sits (kind) (lent_map) c.args.v c.seat-seat.result =
+    let known : Sits (kind) (lent_map) c.args.v (seating c.seat-seat.result) =
     let a = c.args in
     allows (owed a.aggregation) a.limit (lent_map) a.v (way) 0 refl c.takes-value.ensures c.seat-seat.ensures.value in
-    (known).fits (took (kind) (lent_map).cells c.args.v c.seat-seat.result.no c.seat-seat.result.no c.seat-seat.result.slot c.seat-seat.result.updated (λ d. d) _ c.take-no.ensures z)
+    fits-done c.take-done.result (seating c.seat-seat.result).target (Fits c.args.d (lent_map).kept.stores) c.take-done.ensures.target
+    (λ z. (known).fits (took (kind) (lent_map).cells c.args.v (seating c.seat-seat.result).no (seating c.seat-seat.result).no (seating c.seat-seat.result).slot (seating c.seat-seat.result).updated (λ d. d) _ c.take-done.ensures.value z))
 
 pub returns : goal.returns
 returns c =
@@ -40,6 +43,6 @@ returns c =
     let kind : Store (singles c.args.aggregation) = single_store c.args.aggregation in
     let way : Way (kind) c.args.limit (lent_map) = let a = c.args in set-way (owed a.aggregation) a.limit (lent_map) (filter_of a.present a.filter.now) (given a.attrs.now) in
     let a = c.args in
-    ends (owed a.aggregation) a.limit (lent_map) a.v (way) c.seat-seat.result _ _ _ c.finish.ensures
-    refl c.takes-value.ensures refl c.seat-seat.ensures.value (row-seated _ _ _ _ _ c.seat-seat.ensures.value _ c.seat-seat.ensures.row_after) c.take-no.ensures
+    ends (owed a.aggregation) a.limit (lent_map) a.v (way) (seating c.seat-seat.result) _ _ _ (c.finish.ensures ∙ finish-at c.take-done.result _ _ _ _ c.take-done.ensures.target)
+    refl c.takes-value.ensures refl c.seat-seat.ensures.value (row-seated _ _ _ _ _ c.seat-seat.ensures.value _ c.seat-seat.ensures.row_after) c.take-done.ensures.value
     ∙ set_here (kind) a.limit (lent_map) a.v (filter_of a.present a.filter.now) (given a.attrs.now)

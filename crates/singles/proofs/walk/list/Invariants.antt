@@ -1,5 +1,4 @@
 -- `singles::walk::list` meets its contract. Assumes nothing.
-use Prim.Native.Nat.{◌+◌, ◌-◌}
 use mathlib.Core.List.{[]}
 use Rattle.collecting.specs.Lister.{Lister}
 use Rattle.collecting.specs.Slots.{walked}
@@ -18,6 +17,3 @@ invariant-loop-i l =
     Listing L tt l.cumulative (walked l.used l.sets l.entries l.order l.values)
     (record { sets = l.initial.out_sets; words = as_words l.initial.out_values; pos = []; neg = [] }) l.i (place l.at)
     (record { sets = l.out_sets; words = as_words l.out_values; pos = []; neg = [] })
-
-abbrev pub decreases-loop-i : goal.decreases-loop-i
-decreases-loop-i l = l.used + 1 - l.i

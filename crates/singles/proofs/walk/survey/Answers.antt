@@ -1,14 +1,14 @@
 -- `singles::walk::survey` meets its contract. Assumes nothing.
 use Prim.Native.Nat.{◌≤◌}
+use mathlib.Core.Path.{refl, ap, ◌∙◌}
 use mathlib.Core.List.{List, []}
 use native.Mathlib.Omega.{arith}
 use lib.Ieee.{Float}
-use borrow.Author.Tests.{not-true, not-false}
 use Rattle.value_map.specs.Calls.{Held}
 use Rattle.collecting.specs.Lister.{Lister}
-use Rattle.collecting.specs.Slots.{walked}
+use Rattle.collecting.specs.Slots.{unsound, sound_of, survey_of, walked}
 use Rattle.collecting.proofs.Turns.{Seen}
-use Rattle.collecting.proofs.Loops.{found-used, survey-start, survey-few, survey-known, survey-next, survey-stop, survey-end}
+use Rattle.collecting.proofs.Loops.{within, found-used, survey-start, survey-few, survey-known, survey-next, survey-stop, survey-end}
 use Rattle.singles.specs.Stores.{single_store}
 use Rattle.singles.specs.Points.{single_lister}
 use Rattle.singles.proofs.walk.survey.Goals as goal
@@ -27,20 +27,20 @@ is_updated-updated-requires c =
     let map-c : Held (List Float) = let a = c.args in walked a.used [] a.entries.now a.order.now a.values.now in
     let in_use : c.slot_at-x.result ≤ c.args.used =
     found-used (single_store c.args.aggregation) map-c c.requires.walk c.loop-i.i c.slot_at-x.result
-    c.loop-i-test.true c.slot_at-x.ensures in
+    (within _ _ c.loop-i-test.true) c.slot_at-x.ensures in
     c.requires.walk.entries c.slot_at-x.result (in_use)
 
-pub survey-next-requires : goal.survey-next-requires
-survey-next-requires c =
+pub survey-requires : goal.survey-requires
+survey-requires c =
     let L-c : Lister (single_store c.args.aggregation) = single_lister c.args.aggregation in
     let map-c : Held (List Float) = let a = c.args in walked a.used [] a.entries.now a.order.now a.values.now in
     let in_use : c.slot_at-x.result ≤ c.args.used =
     found-used (single_store c.args.aggregation) map-c c.requires.walk c.loop-i.i c.slot_at-x.result
-    c.loop-i-test.true c.slot_at-x.ensures in
+    (within _ _ c.loop-i-test.true) c.slot_at-x.ensures in
     let seen : Seen L-c tt c.args.cumulative map-c
     c.loop-i.i c.slot_at-x.result c.is_updated-updated.result c.is_due-due.result =
     record {
-      place = c.loop-i-test.true;
+      place = within _ _ c.loop-i-test.true;
       slot = c.slot_at-x.ensures;
       updated-is = c.is_updated-updated.ensures;
       asked_is = c.is_due-due.ensures;
@@ -48,34 +48,30 @@ survey-next-requires c =
     let l = c.loop-i in record {
       x_in_bounds = c.requires.walk.room c.slot_at-x.result (in_use);
       few = (
-        survey-few L-c tt c.args.cumulative map-c c.requires.walk l.i l.found l.invariant c.loop-i-test.true,
+        survey-few L-c tt c.args.cumulative map-c c.requires.walk l.i (sound_of l.found) l.invariant (within _ _ c.loop-i-test.true),
         survey-known L-c tt c.args.cumulative map-c c.requires.walk c.args.known c.requires.all_known l.i _ _ _ (seen),
       );
     }
 
-pub returns-then-not-next : goal.returns-then-not-next
-returns-then-not-next c =
+pub returns-in_err-found : goal.returns-in_err-found
+returns-in_err-found c =
     let L-c : Lister (single_store c.args.aggregation) = single_lister c.args.aggregation in
     let map-c : Held (List Float) = let a = c.args in walked a.used [] a.entries.now a.order.now a.values.now in
     let seen : Seen L-c tt c.args.cumulative map-c
     c.loop-i.i c.slot_at-x.result c.is_updated-updated.result c.is_due-due.result =
     record {
-      place = c.loop-i-test.true;
+      place = within _ _ c.loop-i-test.true;
       slot = c.slot_at-x.ensures;
       updated-is = c.is_updated-updated.ensures;
       asked_is = c.is_due-due.ensures;
     } in
     let l = c.loop-i in
-    survey-stop L-c tt c.args.cumulative map-c l.i _ _ _ (seen)
-    l.found c.survey-next.result l.invariant c.survey-next.ensures.value (not-true c.survey-next.result.sound c.if-not-next.true)
+    ap survey_of c.from_residual.ensures
+    ∙ survey-stop L-c tt c.args.cumulative map-c l.i _ _ _ (seen)
+    (sound_of l.found) unsound l.invariant c.in_err-found.ensures.value refl
 
-pub overflow_add-i : goal.overflow_add-i
-overflow_add-i c =
-    omega (arith, c.loop-i-test.true, c.requires.walk.most)
-
-pub loop-i-smaller : goal.loop-i-smaller
-loop-i-smaller c =
-    omega (arith, c.loop-i-test.true)
+pub overflow_add-i-end : goal.overflow_add-i-end
+overflow_add-i-end c = omega (arith, c.requires.walk.most)
 
 pub loop-i-preserved : goal.loop-i-preserved
 loop-i-preserved c =
@@ -84,19 +80,18 @@ loop-i-preserved c =
     let seen : Seen L-c tt c.args.cumulative map-c
     c.loop-i.i c.slot_at-x.result c.is_updated-updated.result c.is_due-due.result =
     record {
-      place = c.loop-i-test.true;
+      place = within _ _ c.loop-i-test.true;
       slot = c.slot_at-x.ensures;
       updated-is = c.is_updated-updated.ensures;
       asked_is = c.is_due-due.ensures;
     } in
     let l = c.loop-i in
     survey-next L-c tt c.args.cumulative map-c l.i _ _ _ (seen)
-    l.found c.survey-next.result l.invariant c.survey-next.ensures.value (not-false c.survey-next.result.sound c.if-not-next.false)
-    c.survey-next.ensures.more
+    (sound_of l.found) (sound_of c.in_ok-found.found) l.invariant c.in_ok-found.ensures.value refl c.in_ok-found.ensures.more
 
 pub returns : goal.returns
 returns c =
     let L-c : Lister (single_store c.args.aggregation) = single_lister c.args.aggregation in
     let map-c : Held (List Float) = let a = c.args in walked a.used [] a.entries.now a.order.now a.values.now in
     let l = c.loop-i in
-    survey-end L-c tt c.args.cumulative map-c l.i l.found l.invariant (omega (arith, c.loop-i-test.false))
+    survey-end L-c tt c.args.cumulative map-c l.i (sound_of l.found) l.invariant (omega (arith, c.loop-i-test.false))

@@ -1,8 +1,6 @@
 -- `printing::all_bits` meets its contract: what waits in the end is what the bounds left give from here. Assumes nothing.
-use Prim.Native.Nat.{◌-◌, ◌≤◌}
 use mathlib.Core.Path.{◌≡◌}
 use mathlib.Core.List.{map}
-use lib.ListN.{length}
 use Rattle.lines.specs.Gathered.{◌behind◌}
 use Rattle.printing.specs.Fields.{joined, float_field}
 use Rattle.printing.proofs.Putting.{from}

@@ -1,5 +1,4 @@
 -- `printing::attributes` meets its contract: what waits in the end is what the attributes left give from here. Assumes nothing.
-use Prim.Native.Nat.{◌-◌, ◌≤◌}
 use mathlib.Core.Path.{◌≡◌}
 use mathlib.Core.List.{map}
 use Rattle.lines.specs.Gathered.{◌behind◌}

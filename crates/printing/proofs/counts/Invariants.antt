@@ -1,8 +1,6 @@
 -- `printing::counts` meets its contract: what waits in the end is what the counts left give from here. Assumes nothing.
-use Prim.Native.Nat.{◌-◌, ◌≤◌}
 use mathlib.Core.Path.{◌≡◌}
 use mathlib.Core.List.{map}
-use lib.ListN.{length}
 use Rattle.lines.specs.Gathered.{◌behind◌}
 use Rattle.lines.specs.Written.{decimal}
 use Rattle.printing.specs.Fields.{joined}

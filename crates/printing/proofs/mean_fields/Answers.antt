@@ -1,4 +1,5 @@
 -- `printing::mean_fields` meets its contract. Assumes nothing.
+use Prim.Native.Nat.{ℕ}
 use mathlib.Core.Path.{sym, ap}
 use mathlib.Core.List.{[], ◌∷◌}
 use lib.IntN.{ℤ}
@@ -32,4 +33,4 @@ returns-in-Err c =
     let t = waiting a.n a.text.now in
     let no = decimal (number c.in-Err.no) in
     spelt (ap (λ (y : Result ℤ Refusal). each 32 (mean_fields (said y))) (sym c.in-Err.is)) t
-    (a-field 32 t (33 ∷ []) (no ∷ []) c.bytes-a.ensures (a-field 32 _ no [] c.number.ensures (no_field 32 _)))
+    (a-field 32 t (33 ∷ []) (no ∷ []) c.bytes-a.ensures (a-field 32 _ no [] (spelt (ap (λ (k : ℕ). 32 ∷ decimal k) c.number.ensures) _ c.number-in-Err.ensures) (no_field 32 _)))

@@ -31,7 +31,7 @@ loop-i-preserved c =
     let printed : Cursor → List ℕ = λ at. line_at at (listed) c.args.bounds.now in
     let next : Cursor → Cursor = λ at. next_at at (listed) in
     let l = c.loop-i in
-    lines-turn (printed) (next) c.args.many l.done.at _ l.i c.point-done.result.at (omega arith) c.point-done.ensures.text_value c.point-done.ensures.at_value
+    lines-turn (printed) (next) c.args.many l.done.at _ l._i c.point-done.result.at (omega arith) c.point-done.ensures.text_value c.point-done.ensures.at_value
           ∙ l.invariant
 
 pub returns : goal.returns
@@ -43,4 +43,4 @@ returns c =
     let l = c.loop-i in
     let a = c.args in
     then (collection_head a.start a.time a.many) _ (waiting a.n a.text.now) c.head-m.ensures
-    (sym (lines_end (printed) (next) a.many l.done.at _ l.i (omega arith)) ∙ l.invariant)
+    (sym (lines_end (printed) (next) a.many l.done.at _ l._i (omega arith)) ∙ l.invariant)

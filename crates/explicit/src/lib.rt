@@ -39,10 +39,8 @@ fn rises(bounds: &[f64]) -> bool
     ensures { result ≡ rising bounds.now }
 {
     let mut ok = true;
-    let mut i: usize = 1;
-    while i < bounds.len() {
+    for i in 1..bounds.len() {
         ok = both(ok, bounds[i - 1] < bounds[i]);
-        i += 1;
     }
     ok
 }
@@ -75,10 +73,8 @@ pub fn same_bounds(a: &[f64], b: &[f64]) -> bool
         return false;
     }
     let mut ok = true;
-    let mut i: usize = 0;
-    while i < n {
+    for i in 0..n {
         ok = both(ok, a[i] == b[i]);
-        i += 1;
     }
     ok
 }
@@ -111,10 +107,8 @@ pub fn bucket_of(bounds: &[f64], v: f64) -> usize
     ensures { result ≡ bucket_of bounds.now v }
 {
     let mut k: usize = 0;
-    let mut i: usize = 0;
-    while i < bounds.len() {
-        k += below(bounds[i], v);
-        i += 1;
+    for &b in bounds {
+        k += below(b, v);
     }
     k
 }
@@ -236,9 +230,7 @@ pub fn add_counts(a: &[u64], b: &[u64], n: usize, out: &mut [u64])
     requires { Addable n a.now b.now × (n ≤ length out.old) }
     ensures { out.new ≡ over (added (take n a.now) (take n b.now)) out.old }
 {
-    let mut i: usize = 0;
-    while i < n {
+    for i in 0..n {
         out[i] = a[i] + b[i];
-        i += 1;
     }
 }

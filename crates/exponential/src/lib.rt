@@ -118,12 +118,9 @@ pub fn sum_halves(counts: &[u64], n: usize, from: Halves) -> Halves
 {
     let mut low = from.low;
     let mut high = from.high;
-    let mut i: usize = 0;
-    while i < n {
-        let x = counts[i];
+    for &x in &counts[..n] {
         low += x % 4294967296;
         high += x / 4294967296;
-        i += 1;
     }
     Halves { low, high }
 }

@@ -17,12 +17,9 @@ pub fn add_row(counts: &[u64], n: usize, from: Wrapped) -> Wrapped
 {
     let mut sum = from.sum;
     let mut most = from.most;
-    let mut i: usize = 0;
-    while i < n {
-        let x = counts[i];
-        sum = std::num::wrapping_add_u64(sum, x);
-        most = most | x;
-        i += 1;
+    for &x in &counts[..n] {
+        sum = sum.wrapping_add(x);
+        most |= x;
     }
     Wrapped { sum, most }
 }

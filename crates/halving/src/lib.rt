@@ -42,11 +42,9 @@ pub fn downscale(counts: &mut [u64], start: u32, n: usize, delta: u32) -> Row
 {
     let mut s = start;
     let mut len = n;
-    let mut k: u32 = 0;
-    while k < delta {
+    for _ in 0..delta {
         len = halve(counts, s, len);
         s = s / 2;
-        k += 1;
     }
     Row { start: s, len }
 }

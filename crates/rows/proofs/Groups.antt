@@ -7,7 +7,7 @@ use native.Mathlib.Numerals.{add-one}
 use native.Mathlib.Omega.{arith}
 use lib.Pow.{pow-add, pow_pos}
 use lib.ListN.{length, get_or, take, drop, set, length-append, length-drop, length-set}
-use lib.Seq.{drop-append-add, drop-drop, drop-set-lt, get_or-drop, length-take-le, take-add}
+use lib.Seq.{drop-append-add, drop-drop, drop-set-lt, get_or-drop, get_or-take, length-take-le, take-add}
 use Rattle.laws.specs.Counting.{total}
 use Rattle.laws.specs.Over.{over}
 use Rattle.laws.proofs.Over.{length_over, over-snoc}
@@ -52,6 +52,14 @@ pub part-turn : (xs : List ℕ) (i j e sum : ℕ) → i ≤ j → j < e → e �
 part-turn xs i j e sum h l r t s =
     let k = part_step xs i j h (omega arith) in
     (omega (arith, k, part-within xs i i (j + 1) e (omega arith) (omega arith) (omega arith)), omega (arith, k))
+
+-- the same, the count that is added read from the part
+pub part-next : (xs : List ℕ) (i k e sum : ℕ) → i + k < e → e ≤ length xs → total (part xs i e) < 2 ^ 64 → sum ≡ total (part xs i (i + k))
+    → (sum + get_or (part xs i e) k 0 < 2 ^ 64) × (sum + get_or (part xs i e) k 0 ≡ total (part xs i (i + (k + 1))))
+part-next xs i k e sum l r t s =
+    let here : get_or (part xs i e) k 0 ≡ get_or xs (i + k) 0 = get_or-take (e - i) (drop i xs) k 0 (omega arith) ∙ get_or-drop i xs k 0 in
+    let w : i + (k + 1) ≡ i + k + 1 = omega arith in
+    rw (here, w) (part-turn xs i (i + k) e sum (omega arith) l r t s)
 
 -- a turn of `group_total`: four counts more behind the j that are added up
 pub record Fours (xs : List ℕ) (i sum j : ℕ) : Type 0 where

@@ -33,11 +33,7 @@ pub fn zero(counts: &mut [u64], a: usize, e: usize)
     requires { (a ≤ e) × (e ≤ length counts.old) }
     ensures { counts.new ≡ zeroed a e counts.old }
 {
-    let mut i = a;
-    while i < e {
-        counts[i] = 0;
-        i += 1;
-    }
+    counts[a..e].fill(0);
 }
 
 // The first n counts k places further on; the first k stay as they were.
@@ -45,9 +41,7 @@ pub fn shift(counts: &mut [u64], n: usize, k: usize)
     requires { n + k ≤ length counts.old }
     ensures { counts.new ≡ shifted n k counts.old }
 {
-    let mut j = n;
-    while 0 < j {
-        j -= 1;
+    for j in (0..n).rev() {
         counts[k + j] = counts[j];
     }
 }

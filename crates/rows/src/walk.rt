@@ -27,10 +27,8 @@ fn part_total(counts: &[u64], i: usize, e: usize) -> u64
     ensures { result ≡ total (part counts.now i e) }
 {
     let mut sum: u64 = 0;
-    let mut j = i;
-    while j < e {
-        sum += counts[j];
-        j += 1;
+    for &x in &counts[i..e] {
+        sum += x;
     }
     sum
 }
@@ -98,12 +96,10 @@ fn wide_groups(counts: &mut [u64], i: usize, m: usize, width: usize)
     requires gatherable { Gatherable width 1 i m counts.old }
     ensures { counts.new ≡ gathered width 1 i m counts.old }
 {
-    let mut k: usize = 0;
     let mut j = i;
-    while k < m {
+    for k in 0..m {
         let x = group_total(counts, j, width);
         counts[k + 1] = x;
-        k += 1;
         j += width;
     }
 }

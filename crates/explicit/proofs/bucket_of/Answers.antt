@@ -8,20 +8,21 @@ use Rattle.laws.proofs.Counting.{bit_le}
 use Rattle.explicit.proofs.Turns.{bucket-turn}
 use Rattle.explicit.proofs.bucket_of.Goals as goal
 
-pub loop-i-init : goal.loop-i-init
+pub loop-b-init : goal.loop-b-init
 unfolding bucket_of
-loop-i-init c = (omega arith, omega arith, refl)
+loop-b-init c = (omega arith, refl)
 
 pub overflow_add-k : goal.overflow_add-k
-overflow_add-k c = omega (arith, c.below-k.ensures, bit_le (lt (get_or c.args.bounds.now c.loop-i.i nan) c.args.v))
+overflow_add-k c = omega (arith, c.below-k.ensures, bit_le (lt (get_or c.args.bounds.now c.loop-b.b-index nan) c.args.v))
 
-pub loop-i-preserved : goal.loop-i-preserved
-loop-i-preserved c =
+pub loop-b-preserved : goal.loop-b-preserved
+loop-b-preserved c =
     let a = c.args in
     let bs = a.bounds.now in
-    (omega arith, omega (arith, c.below-k.ensures, bit_le (lt (get_or bs c.loop-i.i nan) a.v)), bucket-turn bs a.v c.loop-i.i c.loop-i.k c.below-k.result c.loop-i-test.true c.loop-i.invariant.2 c.below-k.ensures)
+    let i = c.loop-b.b-index in
+    (omega (arith, c.below-k.ensures, bit_le (lt (get_or bs i nan) a.v)), bucket-turn bs a.v i c.loop-b.k c.below-k.result c.loop-b-test.true c.loop-b.invariant.1 c.below-k.ensures)
 
 pub returns : goal.returns
 returns c =
     let a = c.args in
-    c.loop-i.invariant.2 ∙ ap (λ l. bucket_of l a.v) (take_all c.loop-i.i a.bounds.now c.loop-i-test.false)
+    c.loop-b.invariant.1 ∙ ap (λ l. bucket_of l a.v) (take_all c.loop-b.b-index a.bounds.now c.loop-b-test.false)

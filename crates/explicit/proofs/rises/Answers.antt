@@ -6,11 +6,10 @@ use Rattle.explicit.proofs.Turns.{rising-turn, rising-one}
 use Rattle.explicit.proofs.rises.Goals as goal
 
 pub loop-i-init : goal.loop-i-init
-loop-i-init c = (omega arith, omega arith, rising-one c.args.bounds.now)
+loop-i-init c = rising-one c.args.bounds.now
 
 pub loop-i-preserved : goal.loop-i-preserved
-loop-i-preserved c =
-    (omega arith, omega arith, rising-turn c.args.bounds.now c.loop-i.i c.loop-i.ok c.both-ok.result c.loop-i.invariant.0 c.loop-i-test.true c.loop-i.invariant.2 c.both-ok.ensures)
+loop-i-preserved c = rising-turn c.args.bounds.now c.loop-i.i c.loop-i.ok c.both-ok.result (omega arith) c.loop-i-test.true c.loop-i.invariant c.both-ok.ensures
 
 pub returns : goal.returns
-returns c = c.loop-i.invariant.2 ∙ ap rising (take_all c.loop-i.i c.args.bounds.now c.loop-i-test.false)
+returns c = c.loop-i.invariant ∙ ap rising (take_all c.loop-i.i c.args.bounds.now c.loop-i-test.false)

@@ -8,6 +8,7 @@ use native.Mathlib.Numerals.{add-one}
 use borrow.Author.Tests.{eq-eqb, ne_eqb}
 use lib.Dec.{eqb}
 use lib.ListN.{length, get_or, set, length-append}
+use mir.Val.{bool_byte}
 use Rattle.laws.specs.Over.{over}
 use Rattle.laws.specs.Pick.{pick}
 use Rattle.laws.proofs.Bools.{pick_true, pick-false}
@@ -26,40 +27,39 @@ module _ (u b : ℕ) (c : Bool) where
   abbrev stays_if : Bool
   stays_if = not (eqb u 0 && (eqb b 0 && c))
 
-  pub stays-used : (u ≡ 0 → ⊥) → 1 ≡ bit stays_if
+  pub stays-used : (u ≡ 0 → ⊥) → true ≡ stays_if
   stays-used n = rw (ne_eqb u 0 n)
 
-  pub stays-bound : u ≡ 0 → (b ≡ 0 → ⊥) → 1 ≡ bit stays_if
+  pub stays-bound : u ≡ 0 → (b ≡ 0 → ⊥) → true ≡ stays_if
   stays-bound e n = rw (eq-eqb u 0 e, ne_eqb b 0 n)
 
-  pub stays-other : u ≡ 0 → b ≡ 0 → bit (not c) ≡ bit stays_if
+  pub stays-other : u ≡ 0 → b ≡ 0 → not c ≡ stays_if
   stays-other e n = rw (eq-eqb u 0 e, eq-eqb b 0 n)
 
 -- the empty set stays, and of the others those that are not plain
-pub less-bit : (b : Bool) → 1 - bit b ≡ bit (not b)
+pub less-bit : (b : Bool) → eqb (bit b) 0 ≡ not b
 less-bit true = refl
 less-bit false = refl
 
-pub empty-other : (row : List ℕ) → size row ≡ 0 → 1 ≡ bit (not (plain (set_of row)))
+pub empty-other : (row : List ℕ) → size row ≡ 0 → true ≡ not (plain (set_of row))
 unfolding set_of
-empty-other row e = ap (λ (k : ℕ). bit (not (plain (map pair (span row 0 k))))) (sym e)
+empty-other row e = ap (λ (k : ℕ). not (plain (map pair (span row 0 k)))) (sym e)
 
 -- a rank
-mark-bit : (b : Bool) (r : ℕ) → pick (eqb (bit b) 0) 0 r ≡ pick b r 0
-unfolding pick
-mark-bit true r = refl
-mark-bit false r = refl
+pub byte-bit : (b : Bool) → bool_byte b ≡ bit b
+byte-bit true = refl
+byte-bit false = refl
 
 module _ (sets entries : List (List ℕ)) (x r k m : ℕ) (q : r ≡ rank (staying sets entries) x) where
   abbrev Ranks : ℕ → Type 0
   Ranks y =
-      k ≡ bit (not (goes (get_or sets y []) (get_or entries y []))) → m ≡ pick (eqb k 0) 0 (r + k) → (r + k ≡ rank (staying sets entries) y) × (m ≡ mark_of (staying sets entries) (suc x))
+      (s : Bool) → s ≡ not (goes (get_or sets y []) (get_or entries y [])) → k ≡ bit s → m ≡ pick s (r + k) 0 → (r + k ≡ rank (staying sets entries) y) × (m ≡ mark_of (staying sets entries) (suc x))
 
   ranks-suc : Ranks (suc x)
-  ranks-suc s h =
+  ranks-suc s g e h =
       let p = staying sets entries in
-      let n : r + k ≡ rank p (suc x) = ap (λ (i : ℕ). r + i) s ∙ ap (λ (i : ℕ). i + bit (p (suc x))) q ∙ sym (rank-more p x) in
-      (n, h ∙ ap (λ (i : ℕ). pick (eqb i 0) 0 (r + k)) s ∙ mark-bit (p (suc x)) (r + k) ∙ ap (λ (i : ℕ). pick (p (suc x)) i 0) n)
+      let n : r + k ≡ rank p (suc x) = ap (λ (i : ℕ). r + i) (e ∙ ap bit g) ∙ ap (λ (i : ℕ). i + bit (p (suc x))) q ∙ sym (rank-more p x) in
+      (n, h ∙ ap (λ (b : Bool). pick b (r + k) 0) g ∙ ap (λ (i : ℕ). pick (p (suc x)) i 0) n)
 
   pub ranks : Ranks (x + 1)
   ranks = subst Ranks (sym (add-one x)) ranks-suc

@@ -7,31 +7,27 @@ ghost use Rattle.sets.specs.Rows.{span, set_of};
 ghost use Rattle.sweep.specs.Swept.{staying, rank};
 ghost use Rattle.sweep.specs.Passes.{mark_of, mark_in, packed, lows, renumbered};
 
-// 1 if a slot stays, 0 if it goes.
-fn stays(bindings: u64, updated: u64, row: &[u64; 9]) -> usize
-    ensures { result ≡ bit (not (eqb updated 0 && (eqb bindings 0 && plain (set_of row.now)))) }
+// Whether a slot stays.
+fn stays(bindings: u64, updated: u64, row: &[u64; 9]) -> bool
+    ensures { result ≡ not (eqb updated 0 && (eqb bindings 0 && plain (set_of row.now))) }
 {
     if updated != 0 {
-        return 1;
+        return true;
     }
     if bindings != 0 {
-        return 1;
+        return true;
     }
     if row[8] == 0 {
-        return 1;
+        return true;
     }
-    let n = sets::set_row::plain_row(row);
-    1 - n
+    sets::set_row::plain_row(row) == 0
 }
 
 // The mark of a slot: r if it stays.
-fn mark(stays: usize, r: usize) -> usize
-    ensures { result ≡ pick (eqb stays 0) 0 r }
+fn mark(stays: bool, r: usize) -> usize
+    ensures { result ≡ pick stays r 0 }
 {
-    if stays == 0 {
-        return 0;
-    }
-    r
+    if stays { r } else { 0 }
 }
 
 // Marks the slots; how many stay.
@@ -45,9 +41,9 @@ pub fn rank(used: usize, sets: &[[u64; 9]], entries: &[[u64; 3]], order: &mut [u
     for x in 0..used {
         let n = entries[x + 1][1];
         let u = entries[x + 1][2];
-        let k = stays(n, u, &sets[x + 1]);
-        r += k;
-        let m = mark(k, r);
+        let stays = stays(n, u, &sets[x + 1]);
+        r += stays as usize;
+        let m = mark(stays, r);
         let q = order[x] as usize;
         order[x] = crate::words::pack(q, m);
     }

@@ -1,10 +1,9 @@
 -- `sweep::passes::stays` meets its contract. Assumes nothing.
-use native.Mathlib.Omega.{arith}
 use mathlib.Core.Path.{ap, ◌∙◌}
-use Prim.Native.Nat.{ℕ, ◌-◌}
+use Prim.Native.Nat.{ℕ}
+use lib.Dec.{eqb}
 use Rattle.tally.specs.Map.{plain}
 use Rattle.sets.specs.Rows.{set_of}
-use Rattle.laws.proofs.Counting.{bit_le}
 use Rattle.sweep.proofs.Turns.{stays-used, stays-bound, stays-other, empty-other, less-bit}
 use Rattle.sweep.proofs.passes.stays.Goals as goal
 
@@ -23,10 +22,7 @@ returns-then-row-eq0 c =
     let a = c.args in
     empty-other a.row.now c.if-row-eq0.true ∙ stays-other a.updated a.bindings (plain (set_of a.row.now)) c.if-updated-ne0.false c.if-bindings-ne0.false
 
-pub overflow_sub-result : goal.overflow_sub-result
-overflow_sub-result c = omega (arith, c.plain_row-n.ensures, bit_le (plain (set_of c.args.row.now)))
-
 pub returns : goal.returns
 returns c =
     let a = c.args in
-    ap (λ (n : ℕ). 1 - n) c.plain_row-n.ensures ∙ less-bit (plain (set_of a.row.now)) ∙ stays-other a.updated a.bindings (plain (set_of a.row.now)) c.if-updated-ne0.false c.if-bindings-ne0.false
+    ap (λ (n : ℕ). eqb n 0) c.plain_row.ensures ∙ less-bit (plain (set_of a.row.now)) ∙ stays-other a.updated a.bindings (plain (set_of a.row.now)) c.if-updated-ne0.false c.if-bindings-ne0.false

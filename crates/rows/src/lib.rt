@@ -33,7 +33,9 @@ pub fn zero(counts: &mut [u64], a: usize, e: usize)
     requires { (a ≤ e) × (e ≤ length counts.old) }
     ensures { counts.new ≡ zeroed a e counts.old }
 {
-    counts[a..e].fill(0);
+    for i in a..e {
+        counts[i] = 0;
+    }
 }
 
 // The first n counts k places further on; the first k stay as they were.

@@ -18,7 +18,6 @@ use bindings::Reply;
 use directory::{Directory, Target};
 use refusals::Refusal;
 use seats::Seated;
-use seats::room::lesser;
 
 // Whether configuring accepts the bounds; or 3.
 pub fn unset_of(bounds: &[f64]) -> Result<(), Refusal>
@@ -34,12 +33,12 @@ pub fn unset_of(bounds: &[f64]) -> Result<(), Refusal>
 fn slots_of(bounds: &[f64], totals: usize, extremes: usize, counts: usize) -> usize
     ensures { (limit : ℕ) → leb (limit + 2) result ≡ lengths_suffice (bucket_count bounds.now) limit (counts ∷ []) (totals ∷ extremes ∷ []) }
 {
-    let least = lesser(totals, extremes);
+    let least = totals.min(extremes);
     let n = explicit::bucket_count(bounds);
     if n == 0 {
         return least;
     }
-    lesser(least, counts / n)
+    least.min(counts / n)
 }
 
 // Whether the series' stores of these lengths suffice.

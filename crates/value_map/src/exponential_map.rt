@@ -16,7 +16,6 @@ use bindings::Reply;
 use directory::{Directory, Target};
 use refusals::Refusal;
 use seats::Seated;
-use seats::room::lesser;
 
 // Whether configuring accepts max_size and the greatest level; or 1, 2.
 pub fn unset_of(size: u32, top: u32) -> Result<(), Refusal>
@@ -39,13 +38,13 @@ pub fn unset_of(size: u32, top: u32) -> Result<(), Refusal>
 fn slots_of(size: u32, figures: usize, extremes: usize, pos: usize, neg: usize) -> usize
     ensures { (limit : ℕ) → leb (limit + 2) result ≡ lengths_suffice size limit (pos ∷ neg ∷ []) (figures ∷ extremes ∷ []) }
 {
-    let least = lesser(figures, extremes);
+    let least = figures.min(extremes);
     let n = size as usize;
     if n == 0 {
         return least;
     }
-    let rows = lesser(pos / n, neg / n);
-    lesser(least, rows)
+    let rows = (pos / n).min(neg / n);
+    least.min(rows)
 }
 
 // Whether the series' stores of these lengths suffice.

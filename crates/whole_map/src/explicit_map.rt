@@ -17,7 +17,6 @@ use crate::exponential_map::takes;
 use bindings::Reply;
 use directory::{Directory, Target};
 use refusals::Refusal;
-use seats::room::lesser;
 use seats::Seated;
 use value_map::explicit_map::{cells_suffice, unset_of};
 use value_map::first;
@@ -26,12 +25,12 @@ use value_map::first;
 fn slots_of(bounds: &[f64], totals: usize, extremes: usize, counts: usize) -> usize
     ensures { (limit : ℕ) → leb (limit + 2) result ≡ lengths_suffice (bucket_count bounds.now) limit (counts ∷ []) (totals ∷ extremes ∷ []) }
 {
-    let least = lesser(totals, extremes);
+    let least = totals.min(extremes);
     let n = explicit::bucket_count(bounds);
     if n == 0 {
         return least;
     }
-    lesser(least, counts / n)
+    least.min(counts / n)
 }
 
 // Configures a map: a fresh start, or 3, 4, 12.
@@ -64,7 +63,11 @@ fn turned_by(bounds: &[f64], no: Refusal) -> Refusal
 {
     match no {
         Refusal::NoHandle | Refusal::Disagrees | Refusal::Full => {
-            if explicit::bounds_pass(bounds) { no } else { Refusal::Disagrees }
+            if explicit::bounds_pass(bounds) {
+                no
+            } else {
+                Refusal::Disagrees
+            }
         }
         _ => no,
     }
@@ -89,7 +92,9 @@ fn take(
     match seat {
         Err(no) => Err(turned_by(bounds, no)),
         Ok(s) => {
-            explicit_whole_slots::record(bounds, sums, s.slot, s.updated, totals, extremes, counts, v)?;
+            explicit_whole_slots::record(
+                bounds, sums, s.slot, s.updated, totals, extremes, counts, v,
+            )?;
             Ok(s.target)
         }
     }
@@ -121,17 +126,20 @@ pub fn measure(
     let value = takes(v);
     let mut row: [u64; 9] = [0; 9];
     let seat = seats::seat(
-        slots, value, Ok(()), limit, d, sets, entries, order, attrs, present, filter, &mut row,
+        slots,
+        value,
+        Ok(()),
+        limit,
+        d,
+        sets,
+        entries,
+        order,
+        attrs,
+        present,
+        filter,
+        &mut row,
     );
-    let done = take(
-        bounds,
-        sums,
-        seat,
-        totals,
-        extremes,
-        counts,
-        v,
-    );
+    let done = take(bounds, sums, seat, totals, extremes, counts, v);
     first::finish(done, d, sets, entries, order, &row)
 }
 
@@ -159,14 +167,6 @@ pub fn measure_by(
     let value = takes(v);
     let row: [u64; 9] = [0; 9];
     let seat = seats::seat_by(slots, value, Ok(()), limit, d, sets, entries, order, h);
-    let done = take(
-        bounds,
-        sums,
-        seat,
-        totals,
-        extremes,
-        counts,
-        v,
-    );
+    let done = take(bounds, sums, seat, totals, extremes, counts, v);
     first::finish(done, d, sets, entries, order, &row)
 }

@@ -16,7 +16,6 @@ ghost use Rattle.whole_map.specs.Exponential.{exponential_wholes};
 use bindings::Reply;
 use directory::{Directory, Target};
 use refusals::Refusal;
-use seats::room::lesser;
 use seats::Seated;
 use value_map::exponential_map::{cells_suffice, unset_of};
 use value_map::first;
@@ -32,13 +31,13 @@ pub fn takes(v: i64) -> bool
 pub fn slots_of(size: u32, figures: usize, extremes: usize, pos: usize, neg: usize) -> usize
     ensures { (limit : ℕ) → leb (limit + 2) result ≡ lengths_suffice size limit (pos ∷ neg ∷ []) (figures ∷ extremes ∷ []) }
 {
-    let least = lesser(figures, extremes);
+    let least = figures.min(extremes);
     let n = size as usize;
     if n == 0 {
         return least;
     }
-    let counts = lesser(pos, neg);
-    lesser(least, counts / n)
+    let counts = pos.min(neg);
+    least.min(counts / n)
 }
 
 // Configures a map: a fresh start, or 1, 2, 4, 12.
@@ -91,7 +90,9 @@ fn take(
     ensures target { IfOk result (λ t. t ≡ (seating seat).target) }
 {
     let s = seat?;
-    exponential_whole_slots::record(size, top, sums, s.slot, s.updated, figures, extremes, pos, neg, v)?;
+    exponential_whole_slots::record(
+        size, top, sums, s.slot, s.updated, figures, extremes, pos, neg, v,
+    )?;
     Ok(s.target)
 }
 
@@ -126,17 +127,7 @@ pub fn measure(
     let seat = seats::seat(
         slots, value, unset, limit, d, sets, entries, order, attrs, present, filter, &mut row,
     );
-    let done = take(
-        size,
-        top,
-        sums,
-        seat,
-        figures,
-        extremes,
-        pos,
-        neg,
-        v,
-    );
+    let done = take(size, top, sums, seat, figures, extremes, pos, neg, v);
     first::finish(done, d, sets, entries, order, &row)
 }
 
@@ -167,16 +158,6 @@ pub fn measure_by(
     let value = takes(v);
     let row: [u64; 9] = [0; 9];
     let seat = seats::seat_by(slots, value, unset, limit, d, sets, entries, order, h);
-    let done = take(
-        size,
-        top,
-        sums,
-        seat,
-        figures,
-        extremes,
-        pos,
-        neg,
-        v,
-    );
+    let done = take(size, top, sums, seat, figures, extremes, pos, neg, v);
     first::finish(done, d, sets, entries, order, &row)
 }

@@ -3,7 +3,7 @@ use lines::Line;
 use lines::attributes::Attributes;
 use replay_batches::{Floats, Integers};
 use replay_state::stores::Bounds;
-use replay_state::{Fields, Keys, State, UNREAD, after, byte, within};
+use replay_state::{Fields, Keys, State, after, byte, within};
 use text::Integer;
 
 // What stands for a letter where a line can't be read, and behind the input's end.
@@ -350,13 +350,13 @@ fn bare(s: State, letter: u8) -> State {
     let mut next = s;
     next.letter = letter;
     next.of = 0;
-    next.no = 0;
+    next.no = Ok(());
     next
 }
 
 // A line that can't be read.
 fn unread(s: State) -> State {
-    after::refused(bare(s, NONE), UNREAD)
+    after::unread(bare(s, NONE))
 }
 
 // The kind that an `n` asks for, over i64 its capital letter.

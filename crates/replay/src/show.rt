@@ -1,6 +1,6 @@
 // Answers printed behind n bytes of text; how many bytes there are then.
 use lines::{Block, Line, output};
-use replay_state::{State, UNREAD, lent, stores};
+use replay_state::{Fault, State, lent, stores};
 use std::io::Stdout;
 
 // A letter and two numbers.
@@ -65,15 +65,17 @@ pub fn answer<'a>(
     pos: &'a stores::ListedCounts,
     neg: &'a stores::ListedCounts,
 ) -> usize {
-    if s.no == UNREAD {
-        return printing::unread(out, text, n, number);
-    }
+    let no = match s.no {
+        Ok(_) => 0,
+        Err(Fault::Refused(e)) => e.number(),
+        Err(Fault::Unread) => return printing::unread(out, text, n, number),
+    };
     let letter = s.letter;
     if is_batch(letter) {
-        return pair(out, text, n, b'a', s.told, s.no as u64);
+        return pair(out, text, n, b'a', s.told, no as u64);
     }
-    if s.no != 0 {
-        return pair(out, text, n, b'!', number, s.no as u64);
+    if no != 0 {
+        return pair(out, text, n, b'!', number, no as u64);
     }
     match letter {
         b'=' => name(out, text, n, line, len),

@@ -1,7 +1,7 @@
 // Damage (`d`): one cell of a store, or of the state, set to a number.
 //
 // Whether a cell is there is asked first, for all stores; so a place is cut to its store's length only for the proof.
-use replay_state::{State, UNREAD, after, byte, cut, stores, within};
+use replay_state::{State, after, byte, cut, stores, within};
 
 // Whether a cell lies within so many places of so many cells.
 fn inside(place: u64, places: u64, cell: u64, cells: u64) -> bool {
@@ -91,7 +91,7 @@ pub fn set(
         return s;
     }
     if !can(s) {
-        return after::refused(s, UNREAD);
+        return after::unread(s);
     }
     let place = s.f[2];
     let cell = s.f[3];
@@ -125,7 +125,7 @@ pub fn set_kept(
         return s;
     }
     if !can(s) {
-        return after::refused(s, UNREAD);
+        return after::unread(s);
     }
     let place = within(s.f[2], 7);
     let cell = s.f[3];

@@ -3,8 +3,8 @@ ghost use Rattle.std.specs.Prelude.{◌≡◌, ◌≤◌};
 
 use lines::Block;
 use listing::Cursor;
-use pooling::Pooled;
-use replay_state::{State, UNREAD, after, lent, stores, within};
+use refusals::Refusal;
+use replay_state::{State, after, lent, stores, within};
 use std::io::Stdout;
 
 // A list's first cursor.
@@ -58,7 +58,7 @@ fn copy_bounds(bounds: &mut stores::Bounds, from: usize, to: usize) {
 
 // After an accepted line a part of the bounds is another's.
 fn settled(s: State, bounds: &mut stores::Bounds, from: usize, to: usize) -> State {
-    if s.no != 0 {
+    if s.no.is_err() {
         return s;
     }
     copy_bounds(bounds, from, to);
@@ -114,7 +114,7 @@ fn keep(
     neg: &mut stores::ListedCounts,
 ) -> State {
     if s.listed as u64 <= s.f[2] || replay_state::is_single(s.collected) {
-        return after::refused(s, UNREAD);
+        return after::unread(s);
     }
     let at = cursor_of(s.f[2], words, pos, neg);
     let next = behind(at, words, pos, neg);
@@ -158,7 +158,7 @@ fn merge_to(
     to_words: &mut [[u64; 12]; 1],
     to_pos: &mut [u64],
     to_neg: &mut [u64],
-) -> Pooled {
+) -> Result<Cursor, Refusal> {
     let a = s.f[2];
     let b = s.f[3];
     pooling::merge_at(
@@ -201,18 +201,18 @@ fn merge(
     out_neg: &mut stores::ListedCounts,
 ) -> State {
     if !are_kept(s, out_words, out_pos, out_neg) {
-        return after::refused(s, UNREAD);
+        return after::unread(s);
     }
     let mut sets = [[0u64; 9]; 1];
     let mut words = [[0u64; 12]; 1];
     let mut pos = [0u64; 160];
     let mut neg = [0u64; 160];
-    let said = merge_to(
+    let merged = merge_to(
         s, bounds, out_sets, out_words, out_pos, out_neg, &mut sets, &mut words, &mut pos, &mut neg,
     );
-    match said {
-        Pooled::Refused(no) => after::refused(s, no),
-        Pooled::Merged(next) => {
+    match merged {
+        Err(no) => after::refused(s, no),
+        Ok(next) => {
             let p = 66 + within(s.f[1], 7);
             out_sets[p] = sets[0];
             out_words[p] = words[0];

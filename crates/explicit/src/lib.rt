@@ -1,9 +1,8 @@
 // One series of the explicit kind, `Buckets` of histogram.rs: bounds, a head by value, and its counts at the front of a lent slice.
 #![tactic(auto)]
 
-ghost use Rattle.std.specs.Prelude.{◌≡◌, ◌&&◌, ◌+◌, ◌-◌, ◌/◌, ◌<◌, ◌≤◌, length, take, eqb};
-ghost use Rattle.std.specs.Float.Ieee.{lt};
-ghost use Rattle.laws.specs.Counting.{bit, total, most_count};
+ghost use Rattle.std.specs.Prelude.{◌≡◌, ◌+◌, ◌-◌, ◌/◌, ◌<◌, ◌≤◌, length, take, eqb};
+ghost use Rattle.laws.specs.Counting.{total, most_count};
 ghost use Rattle.refusals.specs.Refusals.{code, said};
 ghost use Rattle.rows.specs.Rows.{over};
 ghost use Rattle.points.specs.Explicit.{rising, bounds_pass, same_bounds, bucket_of, bucket_count, record_bucket, added, buckets_agree};
@@ -25,22 +24,12 @@ pub struct Head {
 
 // ---- bounds
 
-// Whether both hold.
-fn both(ok: bool, test: bool) -> bool
-    ensures { result ≡ (ok && test) }
-{
-    if test {
-        return ok;
-    }
-    false
-}
-
 fn rises(bounds: &[f64]) -> bool
     ensures { result ≡ rising bounds.now }
 {
     let mut ok = true;
     for i in 1..bounds.len() {
-        ok = both(ok, bounds[i - 1] < bounds[i]);
+        ok &= bounds[i - 1] < bounds[i];
     }
     ok
 }
@@ -74,7 +63,7 @@ pub fn same_bounds(a: &[f64], b: &[f64]) -> bool
     }
     let mut ok = true;
     for i in 0..n {
-        ok = both(ok, a[i] == b[i]);
+        ok &= a[i] == b[i];
     }
     ok
 }
@@ -92,23 +81,13 @@ pub fn bucket_count(bounds: &[f64]) -> usize
     n + 1
 }
 
-// 1 where b is below v.
-fn below(b: f64, v: f64) -> usize
-    ensures { result ≡ bit (lt b v) }
-{
-    if b < v {
-        return 1;
-    }
-    0
-}
-
 // The bucket of v: how many bounds are below it.
 pub fn bucket_of(bounds: &[f64], v: f64) -> usize
     ensures { result ≡ bucket_of bounds.now v }
 {
     let mut k: usize = 0;
     for &b in bounds {
-        k += below(b, v);
+        k += usize::from(b < v);
     }
     k
 }

@@ -1,7 +1,7 @@
 // One value added to a series: its class, then its place in the row of its sign, both rows lowered where that needs it.
 ghost use Rattle.std.specs.Prelude.{◌≡◌, ◌+◌, ◌^◌, ◌<◌, ◌≤◌, length, take};
 ghost use Rattle.index.specs.Answers.{bin_of};
-ghost use Rattle.laws.specs.Counting.{bit, total, most_count};
+ghost use Rattle.laws.specs.Counting.{total, most_count};
 ghost use Rattle.laws.specs.Pick.{pick};
 ghost use Rattle.exponential.specs.Steps.{lowered, with1, low_bin, high_bin, lowering, placed};
 ghost use Rattle.exponential.specs.Series.{row_in, read};
@@ -91,16 +91,6 @@ fn signed_row(negative: bool, pos: Row, neg: Row) -> Row
     pos
 }
 
-// 1 below zero.
-fn one_if(negative: bool) -> u64
-    ensures { result ≡ bit negative }
-{
-    if negative {
-        return 1;
-    }
-    0
-}
-
 // One more at bin where the row of its sign has it, and whether it has: most values of a warm series fall so. The signs of values are random, so
 // none is asked: one is added to the one row, and none to the other.
 fn raise(p: Row, n: Row, pos: &mut [u64], neg: &mut [u64], negative: bool, bin: u32) -> bool
@@ -116,7 +106,7 @@ fn raise(p: Row, n: Row, pos: &mut [u64], neg: &mut [u64], negative: bool, bin: 
     if row.len <= k {
         return false;
     }
-    let m = one_if(negative);
+    let m = u64::from(negative);
     pos[k] += 1 - m;
     neg[k] += m;
     true

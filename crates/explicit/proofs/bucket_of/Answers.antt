@@ -13,14 +13,14 @@ unfolding bucket_of
 loop-b-init c = (omega arith, refl)
 
 pub overflow_add-k : goal.overflow_add-k
-overflow_add-k c = omega (arith, c.below-k.ensures, bit_le (lt (get_or c.args.bounds.now c.loop-b.b-index nan) c.args.v))
+overflow_add-k c = omega (arith, c.from-k.ensures, bit_le (lt (get_or c.args.bounds.now c.loop-b.b-index nan) c.args.v))
 
 pub loop-b-preserved : goal.loop-b-preserved
 loop-b-preserved c =
     let a = c.args in
     let bs = a.bounds.now in
     let i = c.loop-b.b-index in
-    (omega (arith, c.below-k.ensures, bit_le (lt (get_or bs i nan) a.v)), bucket-turn bs a.v i c.loop-b.k c.below-k.result c.loop-b-test.true c.loop-b.invariant.1 c.below-k.ensures)
+    (omega (arith, c.from-k.ensures, bit_le (lt (get_or bs i nan) a.v)), bucket-turn bs a.v i c.loop-b.k _ c.loop-b-test.true c.loop-b.invariant.1 c.from-k.ensures)
 
 pub returns : goal.returns
 returns c =

@@ -1,4 +1,4 @@
-use mathlib.Core.Path.{◌∙◌}
+use mathlib.Core.Path.{refl, ◌∙◌}
 use native.Mathlib.Omega.{arith}
 use lib.Seq.{take_all}
 use Rattle.points.specs.Explicit.{same_bounds}
@@ -14,7 +14,7 @@ loop-i-init c = same_none c.args.a.now c.args.b.now
 pub loop-i-preserved : goal.loop-i-preserved
 loop-i-preserved c =
     let a = c.args in
-    same_turn a.a.now a.b.now c.loop-i.i c.loop-i.ok c.both-ok.result c.if-n-b.false c.loop-i-test.true c.loop-i.invariant c.both-ok.ensures
+    same_turn a.a.now a.b.now c.loop-i.i c.loop-i.ok _ c.if-n-b.false c.loop-i-test.true c.loop-i.invariant refl
 
 pub returns : goal.returns
 returns c =

@@ -18,11 +18,11 @@ pub overflow_sub-pos : goal.overflow_sub-pos
 overflow_sub-pos c =
     let place : ℕ = c.args.bin - c.signed_row-row.result.start in
     let inside : place < c.signed_row-row.result.len = omega (arith, c.if-row-k.false) in
-    let sums : (c.one_if-m.result ≤ 1) × ((get_or c.args.pos.now (place) 0 + (1 - c.one_if-m.result) < 2 ^ 64)
-    × (get_or c.args.neg.now (place) 0 + c.one_if-m.result < 2 ^ 64)) =
+    let sums : (c.from-m.result ≤ 1) × ((get_or c.args.pos.now (place) 0 + (1 - c.from-m.result) < 2 ^ 64)
+    × (get_or c.args.neg.now (place) 0 + c.from-m.result < 2 ^ 64)) =
     let a = c.args in
     let k = place in
-    sums-fit a.p a.n c.signed_row-row.result a.bin k c.one_if-m.result a.pos.now a.neg.now c.requires a.negative c.signed_row-row.ensures (inside) c.one_if-m.ensures
+    sums-fit a.p a.n c.signed_row-row.result a.bin k c.from-m.result a.pos.now a.neg.now c.requires a.negative c.signed_row-row.ensures (inside) c.from-m.ensures
     (omega (arith, c.slice_known-1.given k)) (omega (arith, c.slice_known-2-1.given k)) in
     omega (arith, sums)
 
@@ -39,11 +39,11 @@ pub overflow_add-pos : goal.overflow_add-pos
 overflow_add-pos c =
     let place : ℕ = c.args.bin - c.signed_row-row.result.start in
     let inside : place < c.signed_row-row.result.len = omega (arith, c.if-row-k.false) in
-    let sums : (c.one_if-m.result ≤ 1) × ((get_or c.args.pos.now (place) 0 + (1 - c.one_if-m.result) < 2 ^ 64)
-    × (get_or c.args.neg.now (place) 0 + c.one_if-m.result < 2 ^ 64)) =
+    let sums : (c.from-m.result ≤ 1) × ((get_or c.args.pos.now (place) 0 + (1 - c.from-m.result) < 2 ^ 64)
+    × (get_or c.args.neg.now (place) 0 + c.from-m.result < 2 ^ 64)) =
     let a = c.args in
     let k = place in
-    sums-fit a.p a.n c.signed_row-row.result a.bin k c.one_if-m.result a.pos.now a.neg.now c.requires a.negative c.signed_row-row.ensures (inside) c.one_if-m.ensures
+    sums-fit a.p a.n c.signed_row-row.result a.bin k c.from-m.result a.pos.now a.neg.now c.requires a.negative c.signed_row-row.ensures (inside) c.from-m.ensures
     (omega (arith, c.slice_known-1.given k)) (omega (arith, c.slice_known-2-1.given k)) in
     omega (arith, sums)
 
@@ -69,11 +69,11 @@ pub overflow_add-neg : goal.overflow_add-neg
 overflow_add-neg c =
     let place : ℕ = c.args.bin - c.signed_row-row.result.start in
     let inside : place < c.signed_row-row.result.len = omega (arith, c.if-row-k.false) in
-    let sums : (c.one_if-m.result ≤ 1) × ((get_or c.args.pos.now (place) 0 + (1 - c.one_if-m.result) < 2 ^ 64)
-    × (get_or c.args.neg.now (place) 0 + c.one_if-m.result < 2 ^ 64)) =
+    let sums : (c.from-m.result ≤ 1) × ((get_or c.args.pos.now (place) 0 + (1 - c.from-m.result) < 2 ^ 64)
+    × (get_or c.args.neg.now (place) 0 + c.from-m.result < 2 ^ 64)) =
     let a = c.args in
     let k = place in
-    sums-fit a.p a.n c.signed_row-row.result a.bin k c.one_if-m.result a.pos.now a.neg.now c.requires a.negative c.signed_row-row.ensures (inside) c.one_if-m.ensures
+    sums-fit a.p a.n c.signed_row-row.result a.bin k c.from-m.result a.pos.now a.neg.now c.requires a.negative c.signed_row-row.ensures (inside) c.from-m.ensures
     (omega (arith, c.slice_known-1.given k)) (omega (arith, c.slice_known-2-1.given k)) in
     omega (arith, sums)
 
@@ -90,12 +90,12 @@ pub returns : goal.returns
 returns c =
     let place : ℕ = c.args.bin - c.signed_row-row.result.start in
     let inside : place < c.signed_row-row.result.len = omega (arith, c.if-row-k.false) in
-    let sums : (c.one_if-m.result ≤ 1) × ((get_or c.args.pos.now (place) 0 + (1 - c.one_if-m.result) < 2 ^ 64)
-    × (get_or c.args.neg.now (place) 0 + c.one_if-m.result < 2 ^ 64)) =
+    let sums : (c.from-m.result ≤ 1) × ((get_or c.args.pos.now (place) 0 + (1 - c.from-m.result) < 2 ^ 64)
+    × (get_or c.args.neg.now (place) 0 + c.from-m.result < 2 ^ 64)) =
     let a = c.args in
     let k = place in
-    sums-fit a.p a.n c.signed_row-row.result a.bin k c.one_if-m.result a.pos.now a.neg.now c.requires a.negative c.signed_row-row.ensures (inside) c.one_if-m.ensures
+    sums-fit a.p a.n c.signed_row-row.result a.bin k c.from-m.result a.pos.now a.neg.now c.requires a.negative c.signed_row-row.ensures (inside) c.from-m.ensures
     (omega (arith, c.slice_known-1.given k)) (omega (arith, c.slice_known-2-1.given k)) in
     let a = c.args in
-    tried-yes a.p a.n c.signed_row-row.result a.bin (place) c.one_if-m.result a.pos.now a.neg.now c.requires a.negative c.signed_row-row.ensures
-    (omega (arith, c.if-bin-start.false)) refl (inside) c.one_if-m.ensures _ (omega (arith, (sums).0))
+    tried-yes a.p a.n c.signed_row-row.result a.bin (place) c.from-m.result a.pos.now a.neg.now c.requires a.negative c.signed_row-row.ensures
+    (omega (arith, c.if-bin-start.false)) refl (inside) c.from-m.ensures _ (omega (arith, (sums).0))

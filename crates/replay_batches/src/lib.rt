@@ -5,9 +5,10 @@
 
 ghost use Rattle.std.specs.Prelude.{◌≡◌, take};
 ghost use Rattle.refusals.specs.Refusals.{code};
-ghost use Rattle.replay_batches.specs.Batched.{batched_in};
+ghost use Rattle.replay_batches.specs.Batched.{outcome_of, batched_in};
 
 use batches::Batch;
+use refusals::Refusal;
 use replay_state::{Fault, State, within};
 
 pub mod explicit_lines;
@@ -37,13 +38,24 @@ pub fn integers_in<'a>(xs: &'a [i64], n: u64) -> &'a [i64]
 
 // ---- the state after such a line
 
+// How a list ended, as what its line comes to.
+fn outcome_of(end: Result<(), Refusal>) -> Result<(), Fault>
+    ensures { result ≡ outcome_of (code end) }
+{
+    match end {
+        Ok(_) => Ok(()),
+        Err(no) => Err(Fault::Refused(no)),
+    }
+}
+
 // It tells how many values were taken, with what refused the next one and the directory that the call left.
 pub fn batched(s: State, reply: Batch) -> State
     ensures { result ≡ batched_in reply.taken (code reply.end) reply.dir s }
 {
     let dir = reply.dir;
+    let no = outcome_of(reply.end);
     let mut next = s;
-    next.no = reply.end.map_err(Fault::Refused);
+    next.no = no;
     next.told = reply.taken as u64;
     next.dir = dir;
     next

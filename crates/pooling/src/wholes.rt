@@ -56,28 +56,18 @@ fn pool(
     let q = f.point;
     let x = crate::entries::shadow_entry(e);
     let y = crate::entries::shadow_entry(f);
-    let total = integers::sum(p.sum, q.sum);
-    match total {
-        None => {
-            crate::entries::refusal_entries(
-                size, a, x, abounds, apos, aneg, b, y, bbounds, bpos, bneg,
-            )?;
-            Err(Refusal::SumOutside)
-        }
-        Some(s) => {
-            let low = p.min;
-            let lower = q.min;
-            let high = p.max;
-            let higher = q.max;
-            let min = numbers::smaller(low, lower);
-            let max = numbers::larger(high, higher);
-            let r = crate::write::pool(
-                size, row, a, x, abounds, apos, aneg, b, y, bbounds, bpos, bneg, at, sets, words,
-                pos, neg,
-            );
-            renumber(r, at.place, min, max, s, words)
-        }
-    }
+    let Some(s) = integers::sum(p.sum, q.sum) else {
+        crate::entries::refusal_entries(
+            size, a, x, abounds, apos, aneg, b, y, bbounds, bpos, bneg,
+        )?;
+        return Err(Refusal::SumOutside);
+    };
+    let min = integers::smaller(p.min, q.min);
+    let max = integers::larger(p.max, q.max);
+    let r = crate::write::pool(
+        size, row, a, x, abounds, apos, aneg, b, y, bbounds, bpos, bneg, at, sets, words, pos, neg,
+    );
+    renumber(r, at.place, min, max, s, words)
 }
 
 // Two points of i64 values merged, or 8 where one is not there.

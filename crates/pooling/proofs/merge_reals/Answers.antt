@@ -11,30 +11,30 @@ pool-requires c =
     let first : Source = nameless c.args.awords.now c.args.apos.now c.args.aneg.now c.args.abounds.now in
     let second : Source = nameless c.args.bwords.now c.args.bpos.now c.args.bneg.now c.args.bbounds.now in (
       whole-lies c.args.a (first) c.in-Some.e (sym c.in-Some.ensures),
-      whole-lies c.args.b (second) c.in-Some-second.f (sym c.in-Some-second.ensures),
+      whole-lies c.args.b (second) c.in-Some-2.f (sym c.in-Some-2.ensures),
     )
 
-pub returns-in-None : goal.returns-in-None
-returns-in-None c =
+pub returns-in_default : goal.returns-in_default
+returns-in_default c =
     let first : Source = nameless c.args.awords.now c.args.apos.now c.args.aneg.now c.args.abounds.now in
     let second : Source = nameless c.args.bwords.now c.args.bpos.now c.args.bneg.now c.args.bbounds.now in
     let lent : Output = record { sets = c.args.sets.now; words = c.args.words.now; pos = c.args.pos.now; neg = c.args.neg.now } in
     reals_law c.args.size c.args.row c.args.a (first) c.args.b (second) c.args.at (lent) _ _
-    c.in-None.ensures refl
+    c.in_default.ensures refl
 
-pub returns-in-None-second : goal.returns-in-None-second
-returns-in-None-second c =
+pub returns-in_default-2 : goal.returns-in_default-2
+returns-in_default-2 c =
     let first : Source = nameless c.args.awords.now c.args.apos.now c.args.aneg.now c.args.abounds.now in
     let second : Source = nameless c.args.bwords.now c.args.bpos.now c.args.bneg.now c.args.bbounds.now in
     let lent : Output = record { sets = c.args.sets.now; words = c.args.words.now; pos = c.args.pos.now; neg = c.args.neg.now } in
     reals_law c.args.size c.args.row c.args.a (first) c.args.b (second) c.args.at (lent) _ _
-    c.in-Some.ensures c.in-None-second.ensures
+    c.in-Some.ensures c.in_default-2.ensures
 
-pub returns-in-Some-second : goal.returns-in-Some-second
-returns-in-Some-second c =
+pub returns : goal.returns
+returns c =
     let first : Source = nameless c.args.awords.now c.args.apos.now c.args.aneg.now c.args.abounds.now in
     let second : Source = nameless c.args.bwords.now c.args.bpos.now c.args.bneg.now c.args.bbounds.now in
     let lent : Output = record { sets = c.args.sets.now; words = c.args.words.now; pos = c.args.pos.now; neg = c.args.neg.now } in
     c.pool.ensures
     ∙ reals_law c.args.size c.args.row c.args.a (first) c.args.b (second) c.args.at (lent) _ _
-    c.in-Some.ensures c.in-Some-second.ensures
+    c.in-Some.ensures c.in-Some-2.ensures

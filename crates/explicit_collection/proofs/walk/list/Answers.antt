@@ -35,8 +35,8 @@ row_at-row-requires c =
     let in_use : c.slot_at-x.result ≤ c.args.used = found-used (explicit_store c.args.bounds.now) map-c c.requires.walk c.loop-i.i c.slot_at-x.result (within _ _ c.loop-i-test.true) c.slot_at-x.ensures in
     c.requires.sets c.slot_at-x.result (in_use)
 
-pub put-next-requires : goal.put-next-requires
-put-next-requires c =
+pub put-at-requires : goal.put-at-requires
+put-at-requires c =
     let L-c : Lister (explicit_store c.args.bounds.now) = explicit_lister c.args.bounds.now in
     let map-c : Held Cells = let a = c.args in walked a.used a.sets.now a.entries.now a.order.now (cells a.totals.now a.extremes.now a.counts.now) in
     let out-c : Output = let a = c.args in output a.out_sets.now a.out_words.now a.out_pos.now a.out_neg.now in
@@ -72,7 +72,7 @@ loop-i-preserved c =
     let a = c.args in
     let l = c.loop-i in
     list-next L-c (a.show, a.sums) a.cumulative map-c out-c c.requires l.i _ _ _ (seen)
-    l.at (out_now) l.invariant c.row_at-row.result c.row_at-row.ensures c.put-next.result _ c.put-next.ensures
+    l.at (out_now) l.invariant c.row_at-row.result c.row_at-row.ensures c.put-at.result _ c.put-at.ensures
 
 pub returns : goal.returns
 returns c =

@@ -1,5 +1,6 @@
 -- `pooling::wholes::mixed` meets its contract. Assumes nothing.
 use mathlib.Core.Path.{refl, sym, subst, ◌∙◌}
+use Rattle.refusals.specs.Refusals.{code}
 use Rattle.listing.specs.declared.Entry.{Entry}
 use Rattle.whole_point.proofs.Call.{mixed_law}
 use Rattle.point.specs.Handing.{refusal_before}
@@ -17,31 +18,31 @@ refusal_entries-no-requires c =
     let second : Source = nameless c.args.bwords.now c.args.bpos.now c.args.bneg.now c.args.bbounds.now in (
       subst (λ (d : Entry). whole_in c.args.a d c.args.abounds.now c.args.apos.now c.args.aneg.now) (sym c.shadow_entry-x.ensures)
           (integer-lies c.args.a (first) c.in-Some.e (sym c.in-Some.ensures)),
-      whole-lies c.args.b (second) c.in-Some-second.f (sym c.in-Some-second.ensures),
+      whole-lies c.args.b (second) c.in-Some-2.f (sym c.in-Some-2.ensures),
     )
 
-pub returns-in-None : goal.returns-in-None
-returns-in-None c =
+pub returns-in_default : goal.returns-in_default
+returns-in_default c =
     let first : Source = nameless c.args.awords.now c.args.apos.now c.args.aneg.now c.args.abounds.now in
     let second : Source = nameless c.args.bwords.now c.args.bpos.now c.args.bneg.now c.args.bbounds.now in
-    mixed-found c.args.size c.args.a (first) c.args.b (second) _ _ c.in-None.ensures refl
+    mixed-found c.args.size c.args.a (first) c.args.b (second) _ _ c.in_default.ensures refl
 
-pub returns-in-None-second : goal.returns-in-None-second
-returns-in-None-second c =
+pub returns-in_default-2 : goal.returns-in_default-2
+returns-in_default-2 c =
     let first : Source = nameless c.args.awords.now c.args.apos.now c.args.aneg.now c.args.abounds.now in
     let second : Source = nameless c.args.bwords.now c.args.bpos.now c.args.bneg.now c.args.bbounds.now in
     mixed-found c.args.size c.args.a (first) c.args.b (second) _ _
-    c.in-Some.ensures c.in-None-second.ensures
+    c.in-Some.ensures c.in_default-2.ensures
 
-pub returns-in-Some-second : goal.returns-in-Some-second
-returns-in-Some-second c =
+pub returns : goal.returns
+returns c =
     let first : Source = nameless c.args.awords.now c.args.apos.now c.args.aneg.now c.args.abounds.now in
     let second : Source = nameless c.args.bwords.now c.args.bpos.now c.args.bneg.now c.args.bbounds.now in
     let a = c.args in
-    let y = stored_of a.b c.in-Some-second.f a.bbounds.now a.bpos.now a.bneg.now in
+    let y = stored_of a.b c.in-Some-2.f a.bbounds.now a.bpos.now a.bneg.now in
     c.beside.ensures
-    ∙ mixed_law a.size (WL.stored_at a.a c.in-Some.e (first).bounds (first).list) y c.refusal_entries-no.result
+    ∙ mixed_law a.size (WL.stored_at a.a c.in-Some.e (first).bounds (first).list) y (code c.refusal_entries-no.result)
     (c.refusal_entries-no.ensures
     ∙ (λ i. refusal_before a.size (stored_of a.a (c.shadow_entry-x.ensures i) a.abounds.now a.apos.now a.aneg.now) y))
     ∙ mixed-found a.size a.a (first) a.b (second) _ _
-    c.in-Some.ensures c.in-Some-second.ensures
+    c.in-Some.ensures c.in-Some-2.ensures

@@ -5,6 +5,9 @@ use mathlib.Core.Bool.{true}
 use native.Mathlib.Omega.{arith}
 use borrow.Author.Rules.{rules}
 use lib.ListN.{length}
+use Rattle.std.specs.Prelude.{Err}
+use Rattle.refusals.specs.Refusals.{number}
+use Rattle.refusals.proofs.Numbers.{passed-on}
 use Rattle.point.specs.Handing.{Stored}
 use Rattle.listing.specs.Listed.{Output}
 use Rattle.pooling.specs.Entries.{stored_of}
@@ -73,8 +76,8 @@ returns-then-not-ok c =
     let long : length (first).bounds ≡ c.args.e.bounds.len = bounds-long c.args.e.bounds c.args.abounds.now c.requires.0.bounds in
     let lent : Output = record { sets = c.args.sets.now; words = c.args.words.now; pos = c.args.pos.now; neg = c.args.neg.now } in
     placeless_law c.args.size (first) (second) c.args.at c.args.row c.args.e.bounds (long) (lent) c.start_of-i.result c.start_of-j.result
-    c.has_place-ok.result c.has_place-ok.ensures c.start_of-i.ensures c.start_of-j.ensures c.merge_entries-r.new.pos c.merge_entries-r.new.neg c.in-Merged.p
-    c.in-Merged.ensures (c.if-not-ok.true)
+    c.has_place-ok.result c.has_place-ok.ensures c.start_of-i.ensures c.start_of-j.ensures c.merge_entries-p.new.pos c.merge_entries-p.new.neg c.in_ok-p.p
+    c.in_ok-p.ensures (c.if-not-ok.true)
 
 pub cursor_behind-next-requires : goal.cursor_behind-next-requires
 cursor_behind-next-requires c =
@@ -90,29 +93,30 @@ cursor_behind-next-requires c =
     let neg-in : c.start_of-j.result ≤ length c.args.neg.now = start-le c.has_place-ok.result c.args.at.neg (length c.args.neg.now) c.start_of-j.result (λ t. (place t).3) c.start_of-j.ensures in
     let t = c.if-not-ok.false in
     goes c.args.size (first) (second) c.args.at c.args.row c.args.e.bounds (long) (lent) c.start_of-i.result c.start_of-j.result
-    c.has_place-ok.result c.has_place-ok.ensures c.start_of-i.ensures c.start_of-j.ensures c.merge_entries-r.new.pos c.merge_entries-r.new.neg c.in-Merged.p
-    c.in-Merged.ensures t
+    c.has_place-ok.result c.has_place-ok.ensures c.start_of-i.ensures c.start_of-j.ensures c.merge_entries-p.new.pos c.merge_entries-p.new.neg c.in_ok-p.p
+    c.in_ok-p.ensures t
     (omega (arith, (place t).0)) (pos-in) (neg-in)
     (omega (arith)) (omega (arith))
 
-pub returns-in-Refused : goal.returns-in-Refused
-returns-in-Refused c =
+pub returns-in_err-p : goal.returns-in_err-p
+returns-in_err-p c =
     let first : Stored = stored_of c.args.a c.args.e c.args.abounds.now c.args.apos.now c.args.aneg.now in
     let second : Stored = stored_of c.args.b c.args.f c.args.bbounds.now c.args.bpos.now c.args.bneg.now in
     let long : length (first).bounds ≡ c.args.e.bounds.len = bounds-long c.args.e.bounds c.args.abounds.now c.requires.0.bounds in
     let lent : Output = record { sets = c.args.sets.now; words = c.args.words.now; pos = c.args.pos.now; neg = c.args.neg.now } in
-    refused_law c.args.size (first) (second) c.args.at c.args.row c.args.e.bounds (long) (lent) c.start_of-i.result c.start_of-j.result
-    c.has_place-ok.result c.has_place-ok.ensures c.start_of-i.ensures c.start_of-j.ensures c.merge_entries-r.new.pos c.merge_entries-r.new.neg c.in-Refused.n
-    c.in-Refused.ensures
+    let told : c.from_residual.result ≡ Err c.in_err-p.field-0.0 = passed-on c.from_residual.result c.in_err-p.field-0.0 c.from_residual.ensures.1 in
+    rw told (refused_law c.args.size (first) (second) c.args.at c.args.row c.args.e.bounds (long) (lent) c.start_of-i.result c.start_of-j.result
+    c.has_place-ok.result c.has_place-ok.ensures c.start_of-i.ensures c.start_of-j.ensures c.merge_entries-p.new.pos c.merge_entries-p.new.neg (number c.in_err-p.field-0.0)
+    c.in_err-p.ensures)
 
-pub returns-else-not-ok : goal.returns-else-not-ok
-returns-else-not-ok c =
+pub returns : goal.returns
+returns c =
     let first : Stored = stored_of c.args.a c.args.e c.args.abounds.now c.args.apos.now c.args.aneg.now in
     let second : Stored = stored_of c.args.b c.args.f c.args.bbounds.now c.args.bpos.now c.args.bneg.now in
     let long : length (first).bounds ≡ c.args.e.bounds.len = bounds-long c.args.e.bounds c.args.abounds.now c.requires.0.bounds in
     let lent : Output = record { sets = c.args.sets.now; words = c.args.words.now; pos = c.args.pos.now; neg = c.args.neg.now } in
     let there : c.has_place-ok.result ≡ true = c.if-not-ok.false in
     accepted_law c.args.size (first) (second) c.args.at c.args.row c.args.e.bounds (long) (lent) c.start_of-i.result c.start_of-j.result
-    c.has_place-ok.result c.has_place-ok.ensures c.start_of-i.ensures c.start_of-j.ensures c.merge_entries-r.new.pos c.merge_entries-r.new.neg c.in-Merged.p
-    c.in-Merged.ensures (there)
+    c.has_place-ok.result c.has_place-ok.ensures c.start_of-i.ensures c.start_of-j.ensures c.merge_entries-p.new.pos c.merge_entries-p.new.neg c.in_ok-p.p
+    c.in_ok-p.ensures (there)
     c.words_of.result c.cursor_behind-next.result c.words_of.ensures c.cursor_behind-next.ensures

@@ -62,8 +62,8 @@ fn pool(
         )?;
         return Err(Refusal::SumOutside);
     };
-    let min = integers::smaller(p.min, q.min);
-    let max = integers::larger(p.max, q.max);
+    let min = numbers::smaller(p.min, q.min);
+    let max = numbers::larger(p.max, q.max);
     let r = crate::write::pool(
         size, row, a, x, abounds, apos, aneg, b, y, bbounds, bpos, bneg, at, sets, words, pos, neg,
     );

@@ -11,7 +11,7 @@ pool-requires c =
     let first : Source = nameless c.args.awords.now c.args.apos.now c.args.aneg.now c.args.abounds.now in
     let second : Source = nameless c.args.bwords.now c.args.bpos.now c.args.bneg.now c.args.bbounds.now in (
       whole-lies c.args.a (first) c.in-Some.e (sym c.in-Some.ensures),
-      whole-lies c.args.b (second) c.in-Some-2.f (sym c.in-Some-2.ensures),
+      whole-lies c.args.b (second) c.in-Some-whole_at.f (sym c.in-Some-whole_at.ensures),
     )
 
 pub returns-in_default : goal.returns-in_default
@@ -22,13 +22,13 @@ returns-in_default c =
     reals_law c.args.size c.args.row c.args.a (first) c.args.b (second) c.args.at (lent) _ _
     c.in_default.ensures refl
 
-pub returns-in_default-2 : goal.returns-in_default-2
-returns-in_default-2 c =
+pub returns-in_default-whole_at : goal.returns-in_default-whole_at
+returns-in_default-whole_at c =
     let first : Source = nameless c.args.awords.now c.args.apos.now c.args.aneg.now c.args.abounds.now in
     let second : Source = nameless c.args.bwords.now c.args.bpos.now c.args.bneg.now c.args.bbounds.now in
     let lent : Output = record { sets = c.args.sets.now; words = c.args.words.now; pos = c.args.pos.now; neg = c.args.neg.now } in
     reals_law c.args.size c.args.row c.args.a (first) c.args.b (second) c.args.at (lent) _ _
-    c.in-Some.ensures c.in_default-2.ensures
+    c.in-Some.ensures c.in_default-whole_at.ensures
 
 pub returns : goal.returns
 returns c =
@@ -37,4 +37,4 @@ returns c =
     let lent : Output = record { sets = c.args.sets.now; words = c.args.words.now; pos = c.args.pos.now; neg = c.args.neg.now } in
     c.pool.ensures
     ∙ reals_law c.args.size c.args.row c.args.a (first) c.args.b (second) c.args.at (lent) _ _
-    c.in-Some.ensures c.in-Some-2.ensures
+    c.in-Some.ensures c.in-Some-whole_at.ensures

@@ -18,7 +18,7 @@ refusal_entries-no-requires c =
     let second : Source = nameless c.args.bwords.now c.args.bpos.now c.args.bneg.now c.args.bbounds.now in (
       subst (λ (d : Entry). whole_in c.args.a d c.args.abounds.now c.args.apos.now c.args.aneg.now) (sym c.shadow_entry-x.ensures)
           (integer-lies c.args.a (first) c.in-Some.e (sym c.in-Some.ensures)),
-      whole-lies c.args.b (second) c.in-Some-2.f (sym c.in-Some-2.ensures),
+      whole-lies c.args.b (second) c.in-Some-whole_at.f (sym c.in-Some-whole_at.ensures),
     )
 
 pub returns-in_default : goal.returns-in_default
@@ -27,22 +27,22 @@ returns-in_default c =
     let second : Source = nameless c.args.bwords.now c.args.bpos.now c.args.bneg.now c.args.bbounds.now in
     mixed-found c.args.size c.args.a (first) c.args.b (second) _ _ c.in_default.ensures refl
 
-pub returns-in_default-2 : goal.returns-in_default-2
-returns-in_default-2 c =
+pub returns-in_default-whole_at : goal.returns-in_default-whole_at
+returns-in_default-whole_at c =
     let first : Source = nameless c.args.awords.now c.args.apos.now c.args.aneg.now c.args.abounds.now in
     let second : Source = nameless c.args.bwords.now c.args.bpos.now c.args.bneg.now c.args.bbounds.now in
     mixed-found c.args.size c.args.a (first) c.args.b (second) _ _
-    c.in-Some.ensures c.in_default-2.ensures
+    c.in-Some.ensures c.in_default-whole_at.ensures
 
 pub returns : goal.returns
 returns c =
     let first : Source = nameless c.args.awords.now c.args.apos.now c.args.aneg.now c.args.abounds.now in
     let second : Source = nameless c.args.bwords.now c.args.bpos.now c.args.bneg.now c.args.bbounds.now in
     let a = c.args in
-    let y = stored_of a.b c.in-Some-2.f a.bbounds.now a.bpos.now a.bneg.now in
+    let y = stored_of a.b c.in-Some-whole_at.f a.bbounds.now a.bpos.now a.bneg.now in
     c.beside.ensures
     ∙ mixed_law a.size (WL.stored_at a.a c.in-Some.e (first).bounds (first).list) y (code c.refusal_entries-no.result)
     (c.refusal_entries-no.ensures
     ∙ (λ i. refusal_before a.size (stored_of a.a (c.shadow_entry-x.ensures i) a.abounds.now a.apos.now a.aneg.now) y))
     ∙ mixed-found a.size a.a (first) a.b (second) _ _
-    c.in-Some.ensures c.in-Some-2.ensures
+    c.in-Some.ensures c.in-Some-whole_at.ensures

@@ -76,7 +76,7 @@ returns-then-not-ok c =
     let long : length (first).bounds ≡ c.args.e.bounds.len = bounds-long c.args.e.bounds c.args.abounds.now c.requires.0.bounds in
     let lent : Output = record { sets = c.args.sets.now; words = c.args.words.now; pos = c.args.pos.now; neg = c.args.neg.now } in
     placeless_law c.args.size (first) (second) c.args.at c.args.row c.args.e.bounds (long) (lent) c.start_of-i.result c.start_of-j.result
-    c.has_place-ok.result c.has_place-ok.ensures c.start_of-i.ensures c.start_of-j.ensures c.merge_entries-p.new.pos c.merge_entries-p.new.neg c.in_ok-p.p
+    c.has_place-ok.result c.has_place-ok.ensures c.start_of-i.ensures c.start_of-j.ensures c.merge_entries.new.pos c.merge_entries.new.neg c.in_ok-p.p
     c.in_ok-p.ensures (c.if-not-ok.true)
 
 pub cursor_behind-next-requires : goal.cursor_behind-next-requires
@@ -93,7 +93,7 @@ cursor_behind-next-requires c =
     let neg-in : c.start_of-j.result ≤ length c.args.neg.now = start-le c.has_place-ok.result c.args.at.neg (length c.args.neg.now) c.start_of-j.result (λ t. (place t).3) c.start_of-j.ensures in
     let t = c.if-not-ok.false in
     goes c.args.size (first) (second) c.args.at c.args.row c.args.e.bounds (long) (lent) c.start_of-i.result c.start_of-j.result
-    c.has_place-ok.result c.has_place-ok.ensures c.start_of-i.ensures c.start_of-j.ensures c.merge_entries-p.new.pos c.merge_entries-p.new.neg c.in_ok-p.p
+    c.has_place-ok.result c.has_place-ok.ensures c.start_of-i.ensures c.start_of-j.ensures c.merge_entries.new.pos c.merge_entries.new.neg c.in_ok-p.p
     c.in_ok-p.ensures t
     (omega (arith, (place t).0)) (pos-in) (neg-in)
     (omega (arith)) (omega (arith))
@@ -106,7 +106,7 @@ returns-in_err-p c =
     let lent : Output = record { sets = c.args.sets.now; words = c.args.words.now; pos = c.args.pos.now; neg = c.args.neg.now } in
     let told : c.from_residual.result ≡ Err c.in_err-p.field-0.0 = passed-on c.from_residual.result c.in_err-p.field-0.0 c.from_residual.ensures.1 in
     rw told (refused_law c.args.size (first) (second) c.args.at c.args.row c.args.e.bounds (long) (lent) c.start_of-i.result c.start_of-j.result
-    c.has_place-ok.result c.has_place-ok.ensures c.start_of-i.ensures c.start_of-j.ensures c.merge_entries-p.new.pos c.merge_entries-p.new.neg (number c.in_err-p.field-0.0)
+    c.has_place-ok.result c.has_place-ok.ensures c.start_of-i.ensures c.start_of-j.ensures c.merge_entries.new.pos c.merge_entries.new.neg (number c.in_err-p.field-0.0)
     c.in_err-p.ensures)
 
 pub returns : goal.returns
@@ -117,6 +117,6 @@ returns c =
     let lent : Output = record { sets = c.args.sets.now; words = c.args.words.now; pos = c.args.pos.now; neg = c.args.neg.now } in
     let there : c.has_place-ok.result ≡ true = c.if-not-ok.false in
     accepted_law c.args.size (first) (second) c.args.at c.args.row c.args.e.bounds (long) (lent) c.start_of-i.result c.start_of-j.result
-    c.has_place-ok.result c.has_place-ok.ensures c.start_of-i.ensures c.start_of-j.ensures c.merge_entries-p.new.pos c.merge_entries-p.new.neg c.in_ok-p.p
+    c.has_place-ok.result c.has_place-ok.ensures c.start_of-i.ensures c.start_of-j.ensures c.merge_entries.new.pos c.merge_entries.new.neg c.in_ok-p.p
     c.in_ok-p.ensures (there)
     c.words_of.result c.cursor_behind-next.result c.words_of.ensures c.cursor_behind-next.ensures

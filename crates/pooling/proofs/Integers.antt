@@ -10,6 +10,7 @@ use Rattle.laws.proofs.Bools.{not-both, pick_true, pick-false}
 use Rattle.laws.proofs.Cases.{true-not-false}
 use Rattle.listing.specs.Listed.{point_at}
 use Rattle.listing.specs.declared.Cursor.{Cursor}
+use Rattle.listing.specs.declared.Entry as LE
 use Rattle.std.specs.Prelude.{Option, Some, None}
 use Rattle.whole_listing.specs.Listed as WL
 use Rattle.whole_listing.specs.Listed.{is_whole}
@@ -79,7 +80,7 @@ module _ (at : Cursor) (x : Source) where
   unfolding is_whole
   not-real k = ap (bounded (length x.bounds)) (go (point_at at words m n) refl)
     where
-      go : (f : Option Entry) → point_at at words m n ≡ f → f ≡ None
+      go : (f : Option LE.Entry) → point_at at words m n ≡ f → f ≡ None
       go None h = refl
       go (Some e) h = absurd (not-both _ k (kind-real (get_or words at.place []) (point-told at words m n e h).is))
 

@@ -1,7 +1,7 @@
 -- `pooling::entries::merge_entries` meets its contract. Assumes nothing.
 use mathlib.Core.List.{[]}
 use native.Mathlib.Omega.{arith}
-use Rattle.point.specs.Handing.{said}
+use Rattle.refusals.specs.Refusals.{said}
 use Rattle.pooling.proofs.Whole.{lent_law}
 use Rattle.pooling.proofs.entries.merge_entries.Goals as goal
 

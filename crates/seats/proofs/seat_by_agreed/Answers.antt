@@ -9,7 +9,6 @@ use Rattle.directory.proofs.Laws.{few}
 use Rattle.seats.specs.Seats.{seating, away, barred_by, seated_by, Seating}
 use Rattle.seats.proofs.Bars.{barred-away, barred-on}
 use Rattle.seats.proofs.Seatings.{by-is, by-there}
-use Rattle.refusals.specs.Refusals.{number}
 use Rattle.refusals.specs.declared.Refusal.{Refusal}
 use Rattle.refusals.proofs.Numbers.{number-nonzero, passed-on}
 use Rattle.seats.proofs.seat_by_agreed.Goals as goal

@@ -76,12 +76,10 @@ pub fn point_of(w: [u64; 12]) -> Point
 fn same(a: &[u64; 12], b: &[u64; 12]) -> bool
     ensures { result ≡ allb 12 (λ i. eqb (get_or a.now i 0) (get_or b.now i 0)) }
 {
-    let mut i: usize = 0;
-    while i < 12 {
+    for i in 0..12 {
         if a[i] != b[i] {
             return false;
         }
-        i += 1;
     }
     true
 }

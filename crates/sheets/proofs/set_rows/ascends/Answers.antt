@@ -5,17 +5,17 @@ use Rattle.sets.specs.Rows.{set_of, below}
 use Rattle.sets.proofs.Ways.{way-lt, way-eq, way_gt}
 use Rattle.sheets.proofs.set_rows.ascends.Goals as goal
 
-pub returns-in-Before : goal.returns-in-Before
-returns-in-Before c =
+pub returns-in-Less : goal.returns-in-Less
+returns-in-Less c =
     let o = cmp (set_of c.args.a.now) (set_of c.args.b.now) in
-    sym (ap below (way-lt o (sym c.in-Before.ensures)))
+    sym (ap below (way-lt o (sym c.in-Less.ensures)))
 
-pub returns-in-Same : goal.returns-in-Same
-returns-in-Same c =
+pub returns-in-Equal : goal.returns-in-Equal
+returns-in-Equal c =
     let o = cmp (set_of c.args.a.now) (set_of c.args.b.now) in
-    sym (ap below (way-eq o (sym c.in-Same.ensures)))
+    sym (ap below (way-eq o (sym c.in-Equal.ensures)))
 
-pub returns-in-After : goal.returns-in-After
-returns-in-After c =
+pub returns-in-Greater : goal.returns-in-Greater
+returns-in-Greater c =
     let o = cmp (set_of c.args.a.now) (set_of c.args.b.now) in
-    sym (ap below (way_gt o (sym c.in-After.ensures)))
+    sym (ap below (way_gt o (sym c.in-Greater.ensures)))

@@ -6,7 +6,6 @@ mod series;
 mod slot;
 
 ghost use Rattle.std.specs.Prelude.{◌≡◌, true};
-ghost use Rattle.std.specs.Float.{nan};
 ghost use Rattle.refusals.specs.Refusals.{code};
 ghost use Rattle.many.specs.Many.{many};
 ghost use Rattle.sets.specs.Sorted.{given, filter_of};
@@ -16,8 +15,6 @@ ghost use Rattle.value_map.specs.Calls.{held, gave, measured, measured_by};
 ghost use Rattle.value_map.specs.Explicit.{explicit_store};
 ghost use Rattle.batches.specs.Agreed.{AgreedBy, AgreedFor};
 ghost use Rattle.batches.specs.Batch.{measured_all, measured_all_by};
-ghost use Rattle.batches.specs.Inner.{recorded_all};
-ghost use Rattle.batches.specs.Asked.{Asked};
 
 use batches::Batch;
 use bindings::Reply;

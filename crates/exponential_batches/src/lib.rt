@@ -6,7 +6,6 @@ pub mod series;
 pub mod slot;
 
 ghost use Rattle.std.specs.Prelude.{◌≡◌, true, [], ◌∷◌, ◌+◌, leb};
-ghost use Rattle.std.specs.Float.{nan};
 ghost use Rattle.sets.specs.Sorted.{given, filter_of};
 ghost use Rattle.directory.specs.View.{stores};
 ghost use Rattle.exponential_slots.specs.Cells.{cells};
@@ -17,8 +16,6 @@ ghost use Rattle.refusals.specs.Refusals.{code};
 ghost use Rattle.many.specs.Many.{many};
 ghost use Rattle.batches.specs.Agreed.{AgreedBy, AgreedFor};
 ghost use Rattle.batches.specs.Batch.{measured_all, measured_all_by};
-ghost use Rattle.batches.specs.Inner.{recorded_all};
-ghost use Rattle.batches.specs.Asked.{Asked};
 
 use batches::Batch;
 use bindings::Reply;

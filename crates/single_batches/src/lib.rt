@@ -12,7 +12,6 @@ ghost use Rattle.directory.specs.View.{stores};
 ghost use Rattle.value_map.specs.Calls.{held, gave, measured, measured_by};
 ghost use Rattle.batches.specs.Agreed.{AgreedBy, AgreedFor};
 ghost use Rattle.batches.specs.Batch.{measured_all, measured_all_by};
-ghost use Rattle.batches.specs.Inner.{recorded_all, TakesAll};
 ghost use Rattle.singles.specs.Stores.{single_store};
 
 use batches::Batch;

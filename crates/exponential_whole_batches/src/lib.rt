@@ -15,8 +15,6 @@ ghost use Rattle.value_map.specs.Calls.{held, gave, measured, measured_by};
 ghost use Rattle.whole_map.specs.Exponential.{exponential_wholes};
 ghost use Rattle.batches.specs.Agreed.{AgreedBy, AgreedFor};
 ghost use Rattle.batches.specs.Batch.{measured_all, measured_all_by};
-ghost use Rattle.batches.specs.Inner.{recorded_all};
-ghost use Rattle.exponential_whole_batches.specs.Slot.{Asks};
 
 use batches::Batch;
 use bindings::Reply;

@@ -47,10 +47,7 @@ fn at_most(x: u64, most: u64) -> Option<u64> {
 
 // A field's decimal, at most so great.
 fn number(line: &[u8], k: usize, most: u64) -> Option<u64> {
-    let Some(x) = text::decimal_at(line, k) else {
-        return None;
-    };
-    at_most(x, most)
+    at_most(text::decimal_at(line, k)?, most)
 }
 
 // A field of one byte; 0 where it is longer or empty.
@@ -147,26 +144,22 @@ fn plain(line: &[u8], k: usize, kind: u8) -> Option<u64> {
 
 // ---- lists, sets and handles
 
-// A bound or a key put behind n that wait: how many there are then, 0 if it can't be put.
-fn put(letter: u8, bytes: &[u8], n: usize, bounds: &mut Bounds, keys: &mut Keys) -> usize {
+// A bound or a key put behind n that wait: how many there are then.
+fn put(letter: u8, bytes: &[u8], n: usize, bounds: &mut Bounds, keys: &mut Keys) -> Option<usize> {
     if letter == b'g' {
-        let Some(x) = text::bits(bytes) else {
-            return 0;
-        };
+        let x = text::bits(bytes)?;
         if 200 <= n {
-            return 0;
+            return None;
         }
         bounds[n] = floats::of_bits(x);
-        return n + 1;
+        return Some(n + 1);
     }
-    let Some(x) = text::decimal(bytes) else {
-        return 0;
-    };
+    let x = text::decimal(bytes)?;
     if 32 <= n || 0xFFFF_FFFF < x {
-        return 0;
+        return None;
     }
     keys[n] = replay_state::cut(x);
-    n + 1
+    Some(n + 1)
 }
 
 // The list of a line `g` or `f` put behind n that wait: how many there are then.
@@ -175,10 +168,7 @@ fn list(letter: u8, line: &[u8], n: usize, bounds: &mut Bounds, keys: &mut Keys)
     let mut i: usize = 2;
     while i < line.len() {
         let e = text::end(line, i, b',');
-        many = put(letter, &line[i..e], many, bounds, keys);
-        if many == 0 {
-            return None;
-        }
+        many = put(letter, &line[i..e], many, bounds, keys)?;
         if line.len() <= e {
             return Some(many as u64);
         }
@@ -200,26 +190,24 @@ fn waiting(letter: u8, line: &[u8], s: State, bounds: &mut Bounds, keys: &mut Ke
     list(letter, line, n as usize, bounds, keys)
 }
 
-// A value put behind n of its line, into the store of its number: how many there are then, 0 if it can't be put.
+// A value put behind n of its line, into the store of its number: how many there are then.
 fn put_value(
     bytes: &[u8],
     n: usize,
     kind: u8,
     floats: &mut Floats,
     integers: &mut Integers,
-) -> usize {
-    let Some(x) = value_at(bytes, 0, kind) else {
-        return 0;
-    };
+) -> Option<usize> {
+    let x = value_at(bytes, 0, kind)?;
     if 100 <= n {
-        return 0;
+        return None;
     }
     if replay_state::is_whole(kind) {
         integers[n] = integers::of_bits(x);
-        return n + 1;
+        return Some(n + 1);
     }
     floats[n] = floats::of_bits(x);
-    n + 1
+    Some(n + 1)
 }
 
 // The values of a list: how many they are.
@@ -228,10 +216,7 @@ fn values(list: &[u8], kind: u8, floats: &mut Floats, integers: &mut Integers) -
     let mut i: usize = 0;
     while i < list.len() {
         let e = text::end(list, i, b',');
-        many = put_value(&list[i..e], many, kind, floats, integers);
-        if many == 0 {
-            return None;
-        }
+        many = put_value(&list[i..e], many, kind, floats, integers)?;
         if list.len() <= e {
             return Some(many as u64);
         }
@@ -268,10 +253,7 @@ fn set(line: &[u8], attrs: &mut Attributes) -> Option<u64> {
 
 // The birth number in the place of a handle.
 fn birth(s: State, handle: Option<u64>) -> Option<u64> {
-    let Some(place) = handle else {
-        return None;
-    };
-    let i = within(place, 99);
+    let i = within(handle?, 99);
     Some(s.handles[i])
 }
 
@@ -306,14 +288,12 @@ fn take(
     bounds: &mut Bounds,
     keys: &mut Keys,
 ) -> bool {
-    let mut k: usize = 1;
-    while k < 11 {
+    for k in 1..11 {
         let found = value(line, k, kind_of(letter, k), s, attrs, bounds, keys);
         let Some(x) = found else {
             return false;
         };
         f[k] = x;
-        k += 1;
     }
     true
 }

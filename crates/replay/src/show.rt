@@ -23,11 +23,8 @@ fn is_batch(letter: u8) -> bool {
 
 // The lowest place that holds the birth number that a binding told.
 fn first_of(s: State) -> u64 {
-    let mut i: usize = 0;
-    while i < 99 && s.handles[i] != s.told {
-        i += 1;
-    }
-    i as u64
+    let found = s.handles[..99].iter().position(|held| *held == s.told);
+    found.unwrap_or(99) as u64
 }
 
 fn listed<'a>(

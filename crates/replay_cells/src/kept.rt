@@ -49,10 +49,8 @@ fn part(k: u64) -> usize
 fn copy_bounds(bounds: &mut stores::Bounds, from: usize, to: usize) {
     let a = 200 * within(from as u64, 10);
     let b = 200 * within(to as u64, 10);
-    let mut i: usize = 0;
-    while i < 200 {
+    for i in 0..200 {
         bounds[b + i] = bounds[a + i];
-        i += 1;
     }
 }
 
@@ -86,10 +84,8 @@ fn behind(at: Cursor, words: &[[u64; 12]], pos: &[u64], neg: &[u64]) -> Cursor {
 // The cursor of a place of the list.
 fn cursor_of(place: u64, words: &[[u64; 12]], pos: &[u64], neg: &[u64]) -> Cursor {
     let mut at = first();
-    let mut i: u64 = 0;
-    while i < place {
+    for _ in 0..place {
         at = behind(at, words, pos, neg);
-        i += 1;
     }
     at
 }
@@ -98,10 +94,10 @@ fn cursor_of(place: u64, words: &[[u64; 12]], pos: &[u64], neg: &[u64]) -> Curso
 fn move_counts(counts: &mut stores::ListedCounts, from: usize, to: usize, k: u64) {
     let a = within(from as u64, 10560);
     let b = begin(k);
-    let mut i: usize = 0;
-    while i < 160 && a + i < to {
-        counts[b + i] = counts[a + i];
-        i += 1;
+    for i in 0..160 {
+        if a + i < to {
+            counts[b + i] = counts[a + i];
+        }
     }
 }
 
@@ -184,11 +180,8 @@ fn merge_to(
 
 fn put_counts(counts: &[u64; 160], n: usize, k: u64, out: &mut stores::ListedCounts) {
     let a = begin(k);
-    let mut i: usize = 0;
-    while i < 160 && i < n {
-        out[a + i] = counts[i];
-        i += 1;
-    }
+    let many = n.min(160);
+    out[a..a + many].copy_from_slice(&counts[..many]);
 }
 
 // Merges two kept points into a third, which has the first's set.

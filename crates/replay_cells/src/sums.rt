@@ -123,14 +123,12 @@ fn sum(
 ) -> u64 {
     let n = cells(store);
     let mut sum: u64 = 0;
-    let mut i: usize = 0;
-    while i < n {
+    for i in 0..n {
         let x = cell(
             store, i, sets, entries, order, figures, extremes, wholes, pos, neg, out_sets,
             out_words, out_pos, out_neg, bounds,
         );
         sum = mix(sum, x);
-        i += 1;
     }
     sum
 }
@@ -169,8 +167,7 @@ pub fn shown(
     }
     let sums = sums_of(s.kind);
     let mut m = state(out, text, n, s);
-    let mut i: usize = 0;
-    while i < sums {
+    for i in 0..sums {
         let x = sum(
             store_of(i, s.kind),
             sets,
@@ -188,7 +185,6 @@ pub fn shown(
             bounds,
         );
         m = number(out, text, m, x);
-        i += 1;
     }
     output::byte(out, text, m, b'\n')
 }

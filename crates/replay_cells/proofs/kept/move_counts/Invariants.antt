@@ -1,9 +1,0 @@
--- `replay_cells::kept::move_counts` is safe and ends. Assumes nothing.
-use Prim.Native.Nat.{◌-◌, ◌≤◌}
-use Rattle.replay_cells.proofs.kept.move_counts.Given as goal
-
-abbrev pub invariant-loop-i : goal.invariant-loop-i
-invariant-loop-i l = l.i ≤ 160
-
-abbrev pub decreases-loop-i : goal.decreases-loop-i
-decreases-loop-i l = 160 - l.i

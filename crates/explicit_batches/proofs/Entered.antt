@@ -1,7 +1,7 @@
 -- Values that enter a slot's row: whether its series agrees, where they start, and what the slot has then. Assumes nothing.
 use Prim.Native.Nat.{ℕ, ◌≤◌}
 use Rattle.std.specs.Prelude.{Result, Ok, Err}
-use Rattle.core.specs.Result.{result_unwrap_or}
+use Rattle.std.specs.Result.{result_unwrap_or}
 use Rattle.refusals.specs.Refusals.{said}
 use Rattle.refusals.specs.declared.Refusal.{Refusal}
 use Rattle.laws.proofs.Answers.{success?, value_in}

@@ -6,7 +6,7 @@ use borrow.Author.Tests.{eq-eqb, ne_eqb}
 use lib.Dec.{eqb}
 use Rattle.sets.specs.Rows.{below}
 use Rattle.sets.specs.Inner.{way}
-use Rattle.core.specs.declared.cmp.Ordering.TheVariants.{Less, Equal, Greater}
+use Rattle.std.specs.declared.cmp.Ordering.TheVariants.{Less, Equal, Greater}
 
 pub way-lt : (o : Ordering) → way o ≡ Less → o ≡ Ordering.lt
 way-lt Ordering.lt e = refl

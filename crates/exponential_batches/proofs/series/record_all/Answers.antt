@@ -3,10 +3,10 @@
 -- ---- refused
 -- ---- taken
 -- ---- the end
-use Prim.Native.Nat.{ℕ, ◌+◌, ◌<◌}
+use Prim.Native.Nat.{ℕ}
 use mathlib.Core.Path.{◌≡◌, refl, sym, ◌∙◌}
 use mathlib.Core.Bool.{true}
-use lib.ListN.{length, get_or}
+use lib.ListN.{get_or}
 use lib.Ieee.{Float, nan, binary64, fits}
 use lib.Ieee.Bits.{is_true}
 use lib.Ieee.Scale.{finite}

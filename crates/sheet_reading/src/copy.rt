@@ -62,13 +62,11 @@ pub fn copy_points(
         neg: 0,
     };
     let mut k: usize = 3;
-    let mut i: usize = 0;
-    while i < n {
+    for i in 0..n {
         let w = head_at(s, k + 9);
         let z = sizes_of(w);
         copy_entry(s, k, i, y, z, w, sets, words, pos, neg, bounds);
         y = crate::judge::added(y, z);
         k += words_in(z);
-        i += 1;
     }
 }

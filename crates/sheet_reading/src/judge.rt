@@ -165,8 +165,7 @@ pub fn judge(s: &[u8], n: usize) -> Option<Sizes>
     };
     let mut last = [0u64; 9];
     let mut k: usize = 3;
-    let mut i: usize = 0;
-    while i < n {
+    for i in 0..n {
         if !entry_holds(s, many, k) {
             return None;
         }
@@ -178,7 +177,6 @@ pub fn judge(s: &[u8], n: usize) -> Option<Sizes>
         all = added(all, z);
         k += words_in(z);
         last = row;
-        i += 1;
     }
     if k < many {
         return None;

@@ -30,9 +30,7 @@ pub fn read_floats(s: &[u8], k: usize, out: &mut [f64])
     requires { There s.now k (length out.old) }
     ensures { out.new ≡ floats_at s.now k (length out.old) }
 {
-    let mut i: usize = 0;
-    while i < out.len() {
-        out[i] = floats::of_bits(cell(s, k + i));
-        i += 1;
+    for (i, x) in out.iter_mut().enumerate() {
+        *x = floats::of_bits(cell(s, k + i));
     }
 }

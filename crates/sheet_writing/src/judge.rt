@@ -156,14 +156,12 @@ pub fn judge<'a>(
         neg: 0,
     };
     let mut cells: usize = 0;
-    let mut i: usize = 0;
-    while i < n {
+    for i in 0..n {
         let Some(e) = step_at(at, sets, words, pos, neg, bounds) else {
             return None;
         };
         cells += width_at(at, e);
         at = e.next;
-        i += 1;
     }
     Some(cells)
 }
@@ -172,8 +170,7 @@ pub fn judge<'a>(
 pub fn no_kind(n: usize, words: &[[u64; 12]]) -> bool
     ensures { result ≡ no_kind n words.now }
 {
-    let mut i: usize = 0;
-    while i < n {
+    for i in 0..n {
         let at = Cursor {
             place: i,
             pos: 0,
@@ -182,7 +179,6 @@ pub fn no_kind(n: usize, words: &[[u64; 12]]) -> bool
         if whole_listing::decode::is_whole(at, words) {
             return false;
         }
-        i += 1;
     }
     true
 }

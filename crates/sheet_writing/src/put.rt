@@ -20,10 +20,8 @@ fn emit_floats(s: &mut [u8], info: u64, n: usize, k: usize, xs: &[f64])
     requires xs_bound { k + length xs.now ≤ n * 3 }
     ensures { s.new ≡ laid info n k (map bits_of xs.now) s.old }
 {
-    let mut i: usize = 0;
-    while i < xs.len() {
-        emit(s, info, n, k + i, floats::bits_of(xs[i]));
-        i += 1;
+    for (i, x) in xs.iter().enumerate() {
+        emit(s, info, n, k + i, floats::bits_of(*x));
     }
 }
 
@@ -152,8 +150,7 @@ pub fn put_sheet<'a>(
         neg: 0,
     };
     let mut k: usize = 3;
-    let mut i: usize = 0;
-    while i < n {
+    for i in 0..n {
         let Some(e) = pooling::entries::whole_at(at, words, pos, neg, bounds) else {
             return;
         };
@@ -161,6 +158,5 @@ pub fn put_sheet<'a>(
         put_found(s, info, records, k, at, e, &row, pos, neg, bounds);
         k += crate::judge::width_at(at, e);
         at = e.next;
-        i += 1;
     }
 }

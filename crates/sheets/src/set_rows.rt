@@ -12,12 +12,10 @@ fn zeros_from(row: &[u64; 9], n: usize) -> bool
     requires { n ≤ 8 }
     ensures { result ≡ allb (8 - n) (λ i. eqb (get_or row.now (n + i) 0) 0) }
 {
-    let mut i: usize = n;
-    while i < 8 {
+    for i in n..8 {
         if row[i] != 0 {
             return false;
         }
-        i += 1;
     }
     true
 }

@@ -46,31 +46,10 @@ overflow_add-k-in-loop-i c =
           c.sizes_of-z.ensures c.words_in-k.result c.words_in-k.ensures,
     )
 
-pub overflow_add-i : goal.overflow_add-i
-overflow_add-i c = omega arith
-
-pub loop-i-smaller : goal.loop-i-smaller
-loop-i-smaller c = omega arith
-
 pub loop-i-preserved : goal.loop-i-preserved
 loop-i-preserved c =
     left-next c.loop-i.invariant c.loop-i-test.true c.head_at-w.result c.head_at-w.ensures c.sizes_of-z.result c.sizes_of-z.ensures
     c.added-y.result c.words_in-k.result _ c.added-y.ensures c.words_in-k.ensures c.copy_entry.ensures
-
-pub shape_of-sets : goal.shape_of-sets
-shape_of-sets c = c.loop-i.invariant.long.sets
-
-pub shape_of-words : goal.shape_of-words
-shape_of-words c = c.loop-i.invariant.long.words
-
-pub shape_of-pos : goal.shape_of-pos
-shape_of-pos c = c.loop-i.invariant.long.pos
-
-pub shape_of-neg : goal.shape_of-neg
-shape_of-neg c = c.loop-i.invariant.long.neg
-
-pub shape_of-bounds : goal.shape_of-bounds
-shape_of-bounds c = c.loop-i.invariant.long.bounds
 
 pub returns : goal.returns
 returns c =

@@ -12,6 +12,3 @@ lent sets words pos neg bounds = record { list = record { sets = sets; words = w
 abbrev pub invariant-loop-i : goal.invariant-loop-i
 invariant-loop-i l =
     Left l.s l.n (lent l.initial.sets l.initial.words l.initial.pos l.initial.neg l.initial.bounds) l.y l.k l.i (lent l.sets l.words l.pos l.neg l.bounds)
-
-abbrev pub decreases-loop-i : goal.decreases-loop-i
-decreases-loop-i l = l.n - l.i

@@ -10,36 +10,17 @@ use Rattle.sheet_reading.specs.Inner.{floats_at}
 use Rattle.sheet_reading.proofs.FloatLaws.{turn_floats}
 use Rattle.sheet_reading.proofs.words.read_floats.Goals as goal
 
-pub loop-i-init : goal.loop-i-init
-loop-i-init c = (omega arith, refl, refl)
-
-pub overflow_add-k : goal.overflow_add-k
-overflow_add-k c = omega arith
-
 pub cell-requires : goal.cell-requires
 cell-requires c =
     (omega arith, cell_room c.args.k (length c.args.out.now) (length c.args.s.now) c.loop-i.i (omega arith) c.requires.1)
 
-pub overflow_add-i : goal.overflow_add-i
-overflow_add-i c = omega arith
-
-pub loop-i-smaller : goal.loop-i-smaller
-loop-i-smaller c = omega arith
-
 pub loop-i-preserved : goal.loop-i-preserved
 loop-i-preserved c =
-    let h : c.loop-i.i + 1 ≤ length c.loop-i.out = omega (arith, c.loop-i-test.true) in (
-      omega arith,
-      length-set c.loop-i.out c.loop-i.i c.of_bits.result ∙ c.loop-i.invariant.1,
-      turn_floats (cell_at c.args.s.now) c.args.k c.loop-i.i c.loop-i.out c.cell.result c.of_bits.result (omega arith)
-          c.loop-i.invariant.2 c.cell.ensures c.of_bits.ensures,
-    )
-
-pub shape_of-out : goal.shape_of-out
-shape_of-out c = c.loop-i.invariant.1
+    turn_floats (cell_at c.args.s.now) c.args.k c.loop-i.i c.loop-i.out c.cell.result c.of_bits.result (omega arith)
+    c.loop-i.invariant c.cell.ensures c.of_bits.ensures
 
 pub returns : goal.returns
 returns c =
-    let e : c.loop-i.i ≡ length c.loop-i.out = omega (arith, c.loop-i-test.false) in
+    let e : c.loop-i.i ≡ length c.loop-i.out = omega arith in
     let f : c.loop-i.i ≡ length c.args.out.now = omega arith in
-    sym (take-length c.loop-i.out) ∙ ap (λ (j : ℕ). take j c.loop-i.out) (sym e) ∙ c.loop-i.invariant.2 ∙ ap (floats_at c.args.s.now c.args.k) f
+    sym (take-length c.loop-i.out) ∙ ap (λ (j : ℕ). take j c.loop-i.out) (sym e) ∙ c.loop-i.invariant ∙ ap (floats_at c.args.s.now c.args.k) f

@@ -6,7 +6,4 @@ use Rattle.sheet_reading.specs.Inner.{floats_at}
 use Rattle.sheet_reading.proofs.words.read_floats.Given as goal
 
 abbrev pub invariant-loop-i : goal.invariant-loop-i
-invariant-loop-i l = (l.i ≤ length l.initial.out) × (length l.out ≡ length l.initial.out) × (take l.i l.out ≡ floats_at l.s l.k l.i)
-
-abbrev pub decreases-loop-i : goal.decreases-loop-i
-decreases-loop-i l = length l.initial.out - l.i
+invariant-loop-i l = take l.i l.out ≡ floats_at l.s l.k l.i

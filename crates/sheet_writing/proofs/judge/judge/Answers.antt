@@ -36,22 +36,6 @@ overflow_add-cells c =
     (sym c.in-Some.ensures) c.width_at-cells.result c.width_at-cells.ensures in
     let g = next in omega (arith, g.few, g.left, g.most)
 
-pub overflow_add-i : goal.overflow_add-i
-overflow_add-i c =
-    let list : Source = let a = c.args in shadowed (source a.sets.now a.words.now a.pos.now a.neg.now a.bounds.now) in
-    let next : Going c.args.n (c.loop-i.i + 1) c.in-Some.e.next (c.loop-i.cells + c.width_at-cells.result) list =
-    going_next c.args.n c.loop-i.i c.loop-i.at c.loop-i.cells list c.loop-i.invariant c.loop-i-test.true c.in-Some.e
-    (sym c.in-Some.ensures) c.width_at-cells.result c.width_at-cells.ensures in
-    let g = next in omega (arith, g.left, g.most)
-
-pub loop-i-smaller : goal.loop-i-smaller
-loop-i-smaller c =
-    let list : Source = let a = c.args in shadowed (source a.sets.now a.words.now a.pos.now a.neg.now a.bounds.now) in
-    let next : Going c.args.n (c.loop-i.i + 1) c.in-Some.e.next (c.loop-i.cells + c.width_at-cells.result) list =
-    going_next c.args.n c.loop-i.i c.loop-i.at c.loop-i.cells list c.loop-i.invariant c.loop-i-test.true c.in-Some.e
-    (sym c.in-Some.ensures) c.width_at-cells.result c.width_at-cells.ensures in
-    omega (arith, (next).left)
-
 pub loop-i-preserved : goal.loop-i-preserved
 loop-i-preserved c =
     let list : Source = let a = c.args in shadowed (source a.sets.now a.words.now a.pos.now a.neg.now a.bounds.now) in

@@ -7,6 +7,3 @@ use Rattle.sheet_writing.proofs.judge.judge.Given as goal
 abbrev pub invariant-loop-i : goal.invariant-loop-i
 invariant-loop-i l =
     Going l.n l.i l.at l.cells (shadowed (record { list = record { sets = l.sets; words = l.words; pos = l.pos; neg = l.neg }; bounds = l.bounds }))
-
-abbrev pub decreases-loop-i : goal.decreases-loop-i
-decreases-loop-i l = l.n - l.i

@@ -6,7 +6,4 @@ use Rattle.sheet_writing.specs.Inner.{no_kind}
 use Rattle.sheet_writing.proofs.judge.no_kind.Given as goal
 
 abbrev pub invariant-loop-i : goal.invariant-loop-i
-invariant-loop-i l = (l.i ≤ l.n) × (no_kind l.i l.words ≡ true)
-
-abbrev pub decreases-loop-i : goal.decreases-loop-i
-decreases-loop-i l = l.n - l.i
+invariant-loop-i l = no_kind l.i l.words ≡ true

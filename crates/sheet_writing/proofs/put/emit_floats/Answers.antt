@@ -13,35 +13,19 @@ use Rattle.sheet_writing.proofs.put.emit_floats.Goals as goal
 
 pub loop-i-init : goal.loop-i-init
 unfolding laid
-loop-i-init c = (omega arith, refl, refl)
-
-pub overflow_add-k : goal.overflow_add-k
-overflow_add-k c = omega arith
+loop-i-init c = refl
 
 pub emit-requires : goal.emit-requires
 emit-requires c =
-    (c.requires.room.small, omega arith, place-room (c.args.k + c.loop-i.i) c.args.n _ (omega arith) (omega (arith, c.requires.room.long, c.loop-i.invariant.2)))
-
-pub overflow_add-i : goal.overflow_add-i
-overflow_add-i c = omega arith
-
-pub loop-i-smaller : goal.loop-i-smaller
-loop-i-smaller c = omega arith
+    (c.requires.room.small, omega arith, place-room (c.args.k + c.loop-i.i) c.args.n _ (omega arith) (omega (arith, c.requires.room.long)))
 
 pub loop-i-preserved : goal.loop-i-preserved
 loop-i-preserved c =
-    let h : c.loop-i.i + 1 ≤ length c.args.xs.now = omega (arith, c.loop-i-test.true) in (
-      h,
-      turn_floats c.args.info c.args.n c.args.k c.args.xs.now _ c.args.s.now c.loop-i.s _ c.loop-i.i (omega arith) c.loop-i.invariant.1
-          (c.emit.ensures ∙ ap (λ (x : ℕ). emitted c.args.info c.args.n (c.args.k + c.loop-i.i) x c.loop-i.s) c.bits_of.ensures),
-      ap length c.emit.ensures ∙ length-emitted c.args.info c.args.n (c.args.k + c.loop-i.i) c.bits_of.result c.loop-i.s ∙ c.loop-i.invariant.2,
-    )
-
-pub shape_of-s : goal.shape_of-s
-shape_of-s c = c.loop-i.invariant.2
+    turn_floats c.args.info c.args.n c.args.k c.args.xs.now _ c.args.s.now c.loop-i.s _ c.loop-i.i (omega arith) c.loop-i.invariant
+    (c.emit.ensures ∙ ap (λ (x : ℕ). emitted c.args.info c.args.n (c.args.k + c.loop-i.i) x c.loop-i.s) c.bits_of.ensures)
 
 pub returns : goal.returns
 returns c =
     let bits = map bits_of c.args.xs.now in
-    let e : c.loop-i.i ≡ length bits = omega (arith, c.loop-i-test.false, length-map c.args.xs.now bits_of) in
-    c.loop-i.invariant.1 ∙ ap (λ u. laid c.args.info c.args.n c.args.k u c.args.s.now) (ap (λ (j : ℕ). take j bits) e ∙ take-length bits)
+    let e : c.loop-i.i ≡ length bits = omega (arith, length-map c.args.xs.now bits_of) in
+    c.loop-i.invariant ∙ ap (λ u. laid c.args.info c.args.n c.args.k u c.args.s.now) (ap (λ (j : ℕ). take j bits) e ∙ take-length bits)

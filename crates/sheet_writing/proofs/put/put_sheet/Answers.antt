@@ -25,13 +25,7 @@ pub loop-i-init : goal.loop-i-init
 loop-i-init c =
     let list : Source = let a = c.args in source a.sets.now a.words.now a.pos.now a.neg.now a.bounds.now in
     let first : Left c.args.n 0 c.args.records origin 3 list = left-start c.args.h c.args.n c.args.records list c.args.s.now c.requires in
-    (first, put-start c.args.n _ _ _ _ _ _, refl)
-
-pub shape_of-s-in_default : goal.shape_of-s-in_default
-shape_of-s-in_default c =
-    let list : Source = let a = c.args in source a.sets.now a.words.now a.pos.now a.neg.now a.bounds.now in
-    turn-none c.args.n c.loop-i.i c.args.records c.loop-i.at c.loop-i.k list c.loop-i.invariant.0 c.loop-i-test.true
-    (sym c.in_default.ensures)
+    (first, put-start c.args.n _ _ _ _ _ _)
 
 pub returns-in_default : goal.returns-in_default
 returns-in_default c =
@@ -53,7 +47,7 @@ put_found-requires c =
       room = record {
         small = c.info_of-info.ensures.1;
         few = omega (arith, c.loop-i.invariant.0.few);
-        long = omega (arith, c.requires.room, c.loop-i.invariant.2, c.put_header.auto.s);
+        long = omega (arith, c.requires.room, c.loop-i.auto.s, c.put_header.auto.s);
       };
       whole_there = whole-lies c.loop-i.at list c.in-Some.e (found);
       e_bound = turn-room c.args.n c.loop-i.i c.args.records c.loop-i.at c.loop-i.k list c.loop-i.invariant.0 c.loop-i-test.true c.in-Some.e (found);
@@ -74,12 +68,6 @@ overflow_add-k c =
     turn-room c.args.n c.loop-i.i c.args.records c.loop-i.at c.loop-i.k list c.loop-i.invariant.0 c.loop-i-test.true c.in-Some.e (found) in
     omega (arith, r, c.width_at-k.ensures, c.loop-i.invariant.0.few)
 
-pub overflow_add-i : goal.overflow_add-i
-overflow_add-i c = omega (arith, c.loop-i.invariant.0.most, c.loop-i.invariant.0.left)
-
-pub loop-i-smaller : goal.loop-i-smaller
-loop-i-smaller c = omega (arith, c.loop-i-test.true)
-
 pub loop-i-preserved : goal.loop-i-preserved
 loop-i-preserved c =
     let list : Source = let a = c.args in source a.sets.now a.words.now a.pos.now a.neg.now a.bounds.now in
@@ -89,11 +77,7 @@ loop-i-preserved c =
       c.loop-i.invariant.1
           ∙ turn-put c.args.n c.loop-i.i c.args.records c.loop-i.at c.loop-i.k list c.loop-i.invariant.0 c.loop-i-test.true c.in-Some.e (found)
           c.width_at-k.result c.width_at-k.ensures _ c.loop-i.s _ c.put_found.ensures,
-      c.put_found.auto.s ∙ c.loop-i.invariant.2,
     )
-
-pub shape_of-s : goal.shape_of-s
-shape_of-s c = c.loop-i.invariant.2 ∙ c.put_header.auto.s
 
 pub returns : goal.returns
 returns c =

@@ -12,7 +12,3 @@ invariant-loop-i l =
     let x : Source = record { list = record { sets = l.sets; words = l.words; pos = l.pos; neg = l.neg }; bounds = l.bounds } in
     Left l.n l.i l.records l.at l.k x
     × (put_from l.n l.initial.at l.info l.records l.initial.k x l.initial.s ≡ put_from (l.n - l.i) l.at l.info l.records l.k x l.s)
-    × (length l.s ≡ length l.initial.s)
-
-abbrev pub decreases-loop-i : goal.decreases-loop-i
-decreases-loop-i l = l.n - l.i

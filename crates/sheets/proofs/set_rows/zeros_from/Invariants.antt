@@ -8,6 +8,3 @@ use Rattle.sheets.proofs.set_rows.zeros_from.Given as goal
 
 abbrev pub invariant-loop-i : goal.invariant-loop-i
 invariant-loop-i l = (l.n ≤ l.i) × (l.i ≤ 8) × (allb (l.i - l.n) (zero_from l.row l.n) ≡ true)
-
-abbrev pub decreases-loop-i : goal.decreases-loop-i
-decreases-loop-i l = 8 - l.i

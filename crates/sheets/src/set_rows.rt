@@ -5,8 +5,6 @@ ghost use Rattle.sets.specs.Rows.{size, set_of, below};
 ghost use Rattle.tally.specs.Sets.{cmp};
 ghost use Rattle.sheets.specs.Inner.{row_fine};
 
-use std::cmp::Ordering;
-
 // Whether the words from n on, before the last, are zeros.
 fn zeros_from(row: &[u64; 9], n: usize) -> bool
     requires { n ≤ 8 }
@@ -43,10 +41,5 @@ pub fn ascends(a: &[u64; 9], b: &[u64; 9]) -> bool
     requires { (size a.now ≤ 8) × (size b.now ≤ 8) }
     ensures { result ≡ below (cmp (set_of a.now) (set_of b.now)) }
 {
-    let way = sets::set_row::compare(a, b);
-    match way {
-        Ordering::Less => true,
-        Ordering::Equal => false,
-        Ordering::Greater => false,
-    }
+    sets::set_row::compare(a, b).is_lt()
 }

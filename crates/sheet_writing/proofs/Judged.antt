@@ -34,7 +34,7 @@ use Rattle.sheets.specs.declared.Header.{Header}
 use Rattle.sheets.proofs.EntryParts.{head-twelve}
 use Rattle.sheets.proofs.SameLists.{no_test}
 use Rattle.sheets.proofs.SetLaws.{length-row, row-few}
-use Rattle.std.specs.Prelude.{None, Some, Option}
+use Rattle.std.specs.Prelude.{None, Some}
 use Rattle.std.specs.Prelude as Std
 use Rattle.sheet_writing.specs.Inner.{origin, follows, row_taken, step_at, width_at, judged_from, judged}
 use Rattle.sheets.specs.Lists.{whole_found, listed}
@@ -80,7 +80,7 @@ module _ (n : ℕ) (at : Cursor) (x : Source) where
   rowless t = ap (reading n at x) (pick-false (row_there at x) _ none t)
 
   module _ (t : row_there at x ≡ true) where
-    abbrev whole : Option Entry → Option (Stored × Cursor)
+    abbrev whole : Std.Option Listing.Entry → Option (Stored × Cursor)
     whole f = elim f [ None ↦ none | Some e ↦ some (stored_at at e x.bounds x.list, e.next) ]
 
     pub pointless : whole_at at x ≡ None → from (suc n) at x ≡ none
@@ -228,7 +228,7 @@ module _ (n : ℕ) (at : Cursor) (k : ℕ) (x : Source) (prior : Prior at x) (h 
     rest_bad none = refl
     rest_bad (some es) = pick-false (good_from at x (entry_here at x e ∷ es)) _ None (no_test _ (not_good es))
 
-  by_whole : row_there at x ≡ true → (f : Option Entry) → whole_at at x ≡ f → verdict at k x (from (suc n) at x) ≡ None
+  by_whole : row_there at x ≡ true → (f : Std.Option Listing.Entry) → whole_at at x ≡ f → verdict at k x (from (suc n) at x) ≡ None
   by_whole t None w = ap (verdict at k x) (pointless n at x t w)
   by_whole t (Some e) w = ap (verdict at k x) (read-on n at x t e w) ∙ rest_bad t e w (from n e.next x)
 
@@ -240,7 +240,7 @@ module _ (n : ℕ) (at : Cursor) (k : ℕ) (x : Source) (prior : Prior at x) (h 
 
 module _ (x : Source) where
   step-is-verdict : (n : ℕ) → ((at : Cursor) (k : ℕ) → Prior at x → judged_from n at k x ≡ verdict at k x (from n at x))
-      → (at : Cursor) (k : ℕ) → Prior at x → (f : Option Entry) → step_at at x ≡ f → judged_from (suc n) at k x ≡ verdict at k x (from (suc n) at x)
+      → (at : Cursor) (k : ℕ) → Prior at x → (f : Std.Option Listing.Entry) → step_at at x ≡ f → judged_from (suc n) at k x ≡ verdict at k x (from (suc n) at x)
   step-is-verdict n again at k prior None h = from_bad n at k x h ∙ sym (verdict_bad n at k x prior h)
   step-is-verdict n again at k prior (Some e) h =
       let p = step-passed at x e h in
@@ -354,7 +354,7 @@ pub record Turn (n : ℕ) (at : Cursor) (k : ℕ) (x : Source) (c : ℕ) : Type 
   pub rest : judged_from n e.next (k + width_at at e) x ≡ Some c
 
 module _ (x : Source) (c : ℕ) where
-  turn_by : (n : ℕ) (at : Cursor) (k : ℕ) → judged_from (suc n) at k x ≡ Some c → (f : Option Entry) → step_at at x ≡ f → Turn n at k x c
+  turn_by : (n : ℕ) (at : Cursor) (k : ℕ) → judged_from (suc n) at k x ≡ Some c → (f : Std.Option Listing.Entry) → step_at at x ≡ f → Turn n at k x c
   turn_by n at k j None h = true-not-false (sym (ap is_fine (sym (from_bad n at k x h) ∙ j)))
   turn_by n at k j (Some e) h = record { e = e; step = h; rest = sym (from_more n at k x e h) ∙ j }
 

@@ -19,7 +19,8 @@ use Rattle.point.specs.Handing.{Stored}
 use Rattle.listing.specs.Listed.{stored_at, read_from}
 use Rattle.listing.specs.declared.Cursor.{Cursor}
 use Rattle.listing.specs.declared.Entry as Listing
-use Rattle.std.specs.Prelude.{Option, Some, None}
+use Rattle.std.specs.Prelude.{Some, None}
+use Rattle.std.specs.Prelude as Std
 use Rattle.pooling.specs.Lists.{Source, whole_at}
 use Rattle.records.specs.Words.{bytes_of}
 use Rattle.records.specs.Records.{width, padded, chained}
@@ -63,13 +64,13 @@ module _ (n : ℕ) (at : Cursor) (x : Source) (es : List Entry) where
   abbrev test : Bool
   test = ltb at.place (length x.list.sets) && same_list (row_of (set_of (row_here at x))) (row_here at x)
 
-  abbrev found : Option Entry → Option (Stored × Cursor)
+  abbrev found : Std.Option Listing.Entry → Option (Stored × Cursor)
   found f = elim f [ None ↦ none | Some e ↦ some (stored_at at e x.bounds x.list, e.next) ]
 
   abbrev reading : Option (Stored × Cursor) → Option (List Entry)
   reading y = elim y [ none ↦ none | some z ↦ Option.map (λ l. (set_of (row_here at x), z.0) ∷ l) (from n z.1 x) ]
 
-  by-found : test ≡ true → (f : Option Entry) → whole_at at x ≡ f → reading (found f) ≡ some es → Cut n at x es
+  by-found : test ≡ true → (f : Std.Option Listing.Entry) → whole_at at x ≡ f → reading (found f) ≡ some es → Cut n at x es
   by-found t None w h = none-not-some h
   by-found t (Some e) w h =
       let m = mapped (entry_here at x e) (from n e.next x) es h in

@@ -36,7 +36,8 @@ use Rattle.sheets.specs.Entries as S
 use Rattle.sheets.specs.Sheet.{Sheet, writable}
 use Rattle.sheets.specs.Lists.{listed}
 use Rattle.sheets.specs.declared.Header.{Header}
-use Rattle.std.specs.Prelude.{Some, Option, None}
+use Rattle.std.specs.Prelude.{Some, None}
+use Rattle.std.specs.Prelude as Std
 use Rattle.sheet_writing.specs.Inner.{origin, shadow_found, judged, no_kind}
 use Rattle.sheet_writing.specs.Writing.{Outcome, ends, writing_of, shadowed_row, shadowed, no_whole, writing}
 use Rattle.sheet_writing.proofs.Steps.{whole-next, judged-over}
@@ -119,7 +120,7 @@ module _ (at : Cursor) (w : List ℕ) (pos neg : ℕ) (k : leb 2 (get_or w 0 0) 
       (ap (λ (t : Bool). t && within at (F.point_in w).figures (F.bounds_in w) pos neg) (not-real w k))
       ∙ sym (entry_found ∙ pick-false (is_point w && lies) _ None (ap (λ (t : Bool). t && lies) h))
 
-if-there : (t : Bool) (f : Option WE.Entry) → pick t None (shadow_found f) ≡ shadow_found (pick t None f)
+if-there : (t : Bool) (f : Std.Option WE.Entry) → pick t None (shadow_found f) ≡ shadow_found (pick t None f)
 unfolding pick
 if-there true f = refl
 if-there false f = refl
@@ -162,7 +163,7 @@ whole-alike at x h =
 
 module _ (m : ℕ) (x : Source) (real : (i : ℕ) → i < m → is_point (get_or x.list.words i []) ≡ false) where
   by-found : (n : ℕ) → ((at : Cursor) → at.place + n ≤ m → from n at (shadowed x) ≡ from n at x) → (at : Cursor) → at.place + suc n ≤ m
-      → row_there at x ≡ true → (f : Option Entry) → whole_at at x ≡ f → from (suc n) at (shadowed x) ≡ from (suc n) at x
+      → row_there at x ≡ true → (f : Std.Option Entry) → whole_at at x ≡ f → from (suc n) at (shadowed x) ≡ from (suc n) at x
   by-found n again at l t None h =
       pointless n at (shadowed x) t (whole-alike at x (real at.place (omega arith)) ∙ h) ∙ sym (pointless n at x t h)
   by-found n again at l t (Some e) h =

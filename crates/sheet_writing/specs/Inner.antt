@@ -21,7 +21,6 @@ use Rattle.sheets.specs.Entries.{head_of, words_for}
 use Rattle.sheets.specs.Sheet.{most_points, info_for}
 use Rattle.sheets.specs.Inner.{row_fine}
 use Rattle.sheets.specs.declared.Header.{Header}
-use Rattle.std.specs.Prelude.{Option, None, Some}
 
 abbrev pub origin : Cursor
 origin = record { place = 0; pos = 0; neg = 0 }

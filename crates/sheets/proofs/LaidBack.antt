@@ -25,7 +25,8 @@ use Rattle.listing.specs.Words.{figures_words, words_of}
 use Rattle.listing.specs.Listed.{pos_len, neg_len, behind, bounds_at, stored_at, read_from}
 use Rattle.listing.specs.declared.Cursor.{Cursor}
 use Rattle.listing.specs.declared.Entry as F
-use Rattle.std.specs.Prelude.{Option, Some, None}
+use Rattle.std.specs.Prelude.{Some, None}
+use Rattle.std.specs.Prelude as Std
 use Rattle.listing.specs.declared.Span.{Span}
 use Rattle.listing.proofs.Back as B
 use Rattle.listing.proofs.Back.{Narrow}
@@ -187,7 +188,7 @@ module _ (x : Source) (rs ws : List (List ℕ)) (ps ns : List ℕ) (bs : List Fl
         let p : ltb at.place (length x.list.sets) ≡ true = lt-ltb _ _ (place_here at.place x.list.sets f.sets) in
         let q : same_list (row_of (set_of r)) r ≡ true = same-list (row_of (set_of r)) r (ap row_of set ∙ sym row) in
         pick_true (ltb at.place (length x.list.sets) && same_list (row_of (set_of r)) r) _ none (and_intro _ _ p q)
-        ∙ ap (λ (y : Option Entry). elim y [ None ↦ none | Some d ↦ some (stored_at at d x.bounds x.list, d.next) ]) whole
+        ∙ ap (λ (y : Std.Option F.Entry). elim y [ None ↦ none | Some d ↦ some (stored_at at d x.bounds x.list, d.next) ]) whole
         ∙ (λ i. some (stored i, record { place = at.place + 1; pos = at.pos + sym pos-many i; neg = at.neg + sym neg-many i }))
 
   taken : (es : List Entry) (b : ℕ) (at : Cursor) → From es b at → all entry_fine es ≡ true → All HeldEntry es

@@ -22,7 +22,8 @@ use Rattle.listing.specs.Words.{point_in, bounds_in}
 use Rattle.listing.specs.Listed.{Output, behind, point_at, stored_at, found_at, read_from}
 use Rattle.listing.specs.declared.Cursor.{Cursor}
 use Rattle.listing.specs.declared.Entry as F
-use Rattle.std.specs.Prelude.{Option, Some, None}
+use Rattle.std.specs.Prelude.{Some, None}
+use Rattle.std.specs.Prelude as Std
 use Rattle.pooling.specs.Lists.{Source, bounded, whole_at}
 use Rattle.pooling.proofs.Whole.{whole-told}
 use Rattle.pooling.proofs.Held.{words-read}
@@ -68,7 +69,7 @@ module _ (bounds : List Float) (at : Cursor) (o : Output) (z : Stored × Cursor)
   abbrev x : Source
   x = record { list = o; bounds = bounds }
 
-  by_whole : (t : Bool) (f : Option Entry) → (t ≡ true → at.place < length o.sets) → whole_at at (record { list = o; bounds = bounds }) ≡ f
+  by_whole : (t : Bool) (f : Std.Option F.Entry) → (t ≡ true → at.place < length o.sets) → whole_at at (record { list = o; bounds = bounds }) ≡ f
       → pick t (elim f [ None ↦ none | Some e ↦ some (stored_at at e bounds o, e.next) ]) none ≡ some z → Took bounds at o z
   unfolding pick
   by_whole true None p e h = none-not-some h
@@ -84,12 +85,12 @@ module _ (bounds : List Float) (at : Cursor) (o : Output) (z : Stored × Cursor)
 -- ---- listing finds it too
 
 by-room : {B : Type 0} (t : Bool) (y : F.Entry) (g : F.Entry → B) (b : B)
-    → elim (pick {A = (Option Entry)} t (Some y) None) [ None ↦ none | Some e ↦ some (g e) ] ≡ some b → some (g y) ≡ some b
+    → elim (pick {A = (Std.Option F.Entry)} t (Some y) None) [ None ↦ none | Some e ↦ some (g e) ] ≡ some b → some (g y) ≡ some b
 unfolding pick
 by-room true y g b h = h
 by-room false y g b h = none-not-some h
 
-bounded-found : {B : Type 0} (n : ℕ) (f : Option Entry) (g : F.Entry → B) (b : B) → elim (bounded n f) [ None ↦ none | Some e ↦ some (g e) ] ≡ some b
+bounded-found : {B : Type 0} (n : ℕ) (f : Std.Option F.Entry) (g : F.Entry → B) (b : B) → elim (bounded n f) [ None ↦ none | Some e ↦ some (g e) ] ≡ some b
     → elim f [ None ↦ none | Some e ↦ some (g e) ] ≡ some b
 bounded-found n None g b h = h
 bounded-found n (Some y) g b h = by-room (leb (y.bounds.start + y.bounds.len) n) y g b h
@@ -98,7 +99,7 @@ whole-found : (bounds : List Float) (at : Cursor) (o : Output) (z : Stored × Cu
 whole-found bounds at o z h =
     let t = took bounds at o z h in
     bounded-found (length bounds) (point_at at o.words (length o.pos) (length o.neg)) (λ e. (stored_at at e bounds o, e.next)) z
-    (ap (λ (f : Option Entry). elim f [ None ↦ none | Some e ↦ some (stored_at at e bounds o, e.next) ]) t.whole ∙ ap some t.is)
+    (ap (λ (f : Std.Option F.Entry). elim f [ None ↦ none | Some e ↦ some (stored_at at e bounds o, e.next) ]) t.whole ∙ ap some t.is)
 
 found_from : (bounds : List Float) (o : Output) (n : ℕ) (at : Cursor) (es : List Entry)
     → read_from (whole_found bounds) n at o ≡ some es → read_from (found_at bounds) n at o ≡ some es

@@ -1,13 +1,11 @@
 -- `merge` meets its contract. Assumes nothing.
-use Rattle.std.specs.Prelude.{Ok, Err}
 use mathlib.Core.Path.{◌≡◌, refl, sym, ap, ◌∙◌}
 use borrow.Author.Rules.{rules}
-use borrow.Author.Tests.{ne_eqb}
 use mir.Syntax.{w64}
 use mir.Val.{SFits}
 use Rattle.laws.specs.Said.{refusal, success}
-use Rattle.refusals.specs.Refusals.{number, said}
-use Rattle.refusals.proofs.Numbers.{number-nonzero, passed-on}
+use Rattle.refusals.specs.Refusals.{number}
+use Rattle.refusals.proofs.Numbers.{passed-on}
 use Rattle.integers.specs.Answers.{sum_of}
 use Rattle.integers.proofs.Range.{held}
 use Rattle.point.specs.Handing as P

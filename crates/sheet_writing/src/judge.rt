@@ -71,7 +71,13 @@ fn shadow_found(many: usize, found: Option<whole_listing::Entry>) -> Option<Entr
 }
 
 // The point at a cursor, one of i64 values as its shadow, if it is there with its counts and its bounds.
-fn shadow_at(at: Cursor, words: &[[u64; 12]], pos: &[u64], neg: &[u64], bounds: &[f64]) -> Option<Entry>
+fn shadow_at(
+    at: Cursor,
+    words: &[[u64; 12]],
+    pos: &[u64],
+    neg: &[u64],
+    bounds: &[f64],
+) -> Option<Entry>
     ensures { result ≡ whole_at at (shadowed (nameless words.now pos.now neg.now bounds.now)) }
 {
     if !whole_listing::decode::is_whole(at, words) {

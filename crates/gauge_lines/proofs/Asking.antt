@@ -11,13 +11,9 @@ use borrow.Author.Tests.{le-leb, lt-leb, eq-eqb, ne_eqb}
 use Rattle.laws.proofs.Bools.{pick_true, pick-false}
 use Rattle.text.specs.Numbers.{decimal_of, signed_of}
 use Rattle.text.specs.Fields.{spaces_of, field_of}
-use Rattle.std.specs.Prelude.{Option}
+use lib.IntN.{ℤ}
+use Rattle.std.specs.Prelude.{Option, None}
 use Rattle.lines.specs.Spelled.{spelled, kept}
-use Rattle.lines.specs.declared.attributes.Given.{Given}
-use Rattle.gauge_lines.specs.declared.fields.Size.{Size}
-use Rattle.gauge_lines.specs.declared.fields.Scale.{Scale}
-use Rattle.gauge_lines.specs.declared.fields.Asked.TheVariants as A
-use Rattle.gauge_lines.specs.declared.fields.Board.TheVariants as B
 use Rattle.gauge_lines.specs.declared.fields.Call.{Call}
 use Rattle.gauge_lines.specs.declared.fields.Call.TheVariants as C
 use Rattle.gauge_lines.specs.Lines.{size_in, scale_in, wanted_of, settings_of, parted, bits_in, set_in, both_of, board_of, attributes_in}
@@ -26,11 +22,11 @@ use Rattle.gauge_lines.specs.Lines.{letter_of, by_letter, call_of}
 -- ---- `e SIZE SCALE LIMIT START`
 
 module _ (bs : List ℕ) where
-  pub settings-none : (spaces_of bs ≡ 4 → ⊥) → A.Unread ≡ settings_of bs
+  pub settings-none : (spaces_of bs ≡ 4 → ⊥) → None ≡ settings_of bs
   unfolding settings_of
   settings-none h = sym (pick-false _ _ _ (ne_eqb (spaces_of bs) 4 h))
 
-  pub settings-are : spaces_of bs ≡ 4 → (z : Size) (s : Scale) (l t : Option ℕ) → size_in (decimal_of (field_of bs 1)) ≡ z
+  pub settings-are : spaces_of bs ≡ 4 → (z : Option ℕ) (s : Option ℤ) (l t : Option ℕ) → size_in (decimal_of (field_of bs 1)) ≡ z
       → scale_in (signed_of (field_of bs 2)) ≡ s → decimal_of (field_of bs 3) ≡ l → decimal_of (field_of bs 4) ≡ t
       → wanted_of z s l t ≡ settings_of bs
   unfolding settings_of
@@ -54,7 +50,7 @@ module _ (bs : List ℕ) where
   pub rest-is : take (length bs - 19) (drop 19 bs) ≡ drop 19 bs
   rest-is = let l : length (drop 19 bs) ≤ length bs - 19 = omega (arith, length-drop 19 bs) in take_all (length bs - 19) (drop 19 bs) l
 
-  pub board-none : parted bs ≡ false → B.Unread ≡ board_of bs
+  pub board-none : parted bs ≡ false → None ≡ board_of bs
   unfolding board_of
   board-none h = sym (pick-false (parted bs) _ _ h)
 
@@ -62,7 +58,7 @@ module _ (bs : List ℕ) where
   unfolding attributes_in
   kept-none store h = sym (pick-false (parted bs) _ _ h)
 
-  pub board-is : parted bs ≡ true → (g : Given) (x : Option ℕ) → set_in bs ≡ g → bits_in bs ≡ x → both_of g x ≡ board_of bs
+  pub board-is : parted bs ≡ true → (g x : Option ℕ) → set_in bs ≡ g → bits_in bs ≡ x → both_of g x ≡ board_of bs
   unfolding board_of
   board-is h g x p q = sym (pick_true (parted bs) _ _ h ∙ (λ i. both_of (p i) (q i)))
 

@@ -2,11 +2,11 @@
 ghost use Rattle.std.specs.Prelude.{◌≡◌, take};
 ghost use Rattle.directory.specs.View.{stores};
 ghost use Rattle.exponential_slots.specs.Cells.{cells};
+ghost use Rattle.bindings.specs.Calls as bindings-calls;
 ghost use Rattle.refusals.specs.Refusals.{said};
 ghost use Rattle.gauge_lines.specs.Followed.{outcome, after, begun_by, answered_by, after_start, after_record};
 
 use crate::cells::{Counts, Entries, Extremes, Figures, Gauge, Order, Sets, with};
-use crate::fields::Board;
 use bindings::Reply;
 use clock::Clock;
 use exponential_collection::Setup;
@@ -72,7 +72,7 @@ fn given<'a>(attrs: &'a Attributes, n: usize) -> &'a [[u32; 2]]
 
 // The gauge after a recording, or none where it was refused.
 fn answered(g: Gauge, reply: Reply) -> Option<Gauge>
-    ensures { outcome g result ≡ answered_by g (said reply.answer) reply.dir }
+    ensures { outcome g result ≡ answered_by g (bindings-calls.said reply.answer) reply.dir }
 {
     match reply.answer {
         Ok(_) => Some(with(g, reply.dir)),
@@ -98,7 +98,7 @@ pub fn record(
         (cells figures.old extremes.old pos.old neg.old) }
 {
     let mut attrs = [[0u32; 2]; 9];
-    let Board { bits, many } = crate::fields::board_in(line, &mut attrs)?;
+    let b = crate::fields::board_in(line, &mut attrs)?;
     let s = g.settings;
     let no_keys = [0u32; 1];
     let reply = value_map::exponential_map::measure(
@@ -113,8 +113,8 @@ pub fn record(
         extremes,
         pos,
         neg,
-        floats::of_bits(bits),
-        given(&attrs, many),
+        floats::of_bits(b.bits),
+        given(&attrs, b.many),
         false,
         &no_keys,
     );

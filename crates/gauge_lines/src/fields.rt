@@ -54,11 +54,11 @@ fn with_sign(negative: bool, size: u64) -> i32
 fn scale_of(n: Option<Integer>) -> Option<i32>
     ensures { result ≡ scale_in n }
 {
-    let Integer { negative, size } = n?;
-    if size > 999 {
+    let x = n?;
+    if x.size > 999 {
         return None;
     }
-    Some(with_sign(negative, size))
+    Some(with_sign(x.negative, x.size))
 }
 
 // The settings of a line `e`.

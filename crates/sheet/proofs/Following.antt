@@ -1,12 +1,13 @@
 -- What a line comes to, by the calls that it makes: one law for each way. Assumes nothing.
 use Prim.Native.Nat.{ℕ, ◌≤◌, ◌<◌}
-use mathlib.Core.Path.{◌≡◌, sym, ap, ◌∙◌}
+use mathlib.Core.Path.{◌≡◌, refl, sym, ap, ◌∙◌, subst}
 use mathlib.Core.Bool.{Bool, true, false}
 use mathlib.Core.List.{List, []}
 use borrow.Author.Tests.{lt-ltb, le-ltb}
 use Rattle.laws.specs.Pick.{pick}
 use Rattle.laws.proofs.Bools.{pick_true, pick-false}
-use Rattle.std.specs.Prelude.{Option, Some, None}
+use Rattle.std.specs.Prelude.{Option, Some, None, Result, Ok, Err}
+use Rattle.refusals.specs.declared.Refusal.{Refusal}
 use Rattle.lines.specs.Gathered.{Text, ◌behind◌}
 use Rattle.directory.specs.View.{Stores}
 use Rattle.directory.specs.declared.Directory.{Directory}
@@ -16,23 +17,20 @@ use Rattle.listing.specs.Listed.{Output}
 use Rattle.pooling.specs.Lists.{Source}
 use Rattle.collecting.specs.Collected as Collecting
 use Rattle.collecting.specs.Collected.{delta_collected}
-use Rattle.collecting.specs.declared.Answer.{Answer}
-use Rattle.collecting.specs.declared.Answer.TheVariants.{Refused, Listed}
 use Rattle.exponential_collection.specs.Points.{exponential_lister}
 use Rattle.printing.specs.Printed.{unread_line}
 use Rattle.gauge_lines.specs.Lines.{time_of, call_of}
-use Rattle.gauge_lines.specs.Followed.{After, after, turned_by, after_start, after_record}
+use Rattle.gauge_lines.specs.Followed.{outcome, After, after, turned_by, after_start, after_record}
 use Rattle.gauge_lines.specs.declared.cells.Gauge.{Gauge}
-use Rattle.gauge_lines.specs.declared.cells.Outcome.{Outcome}
 use Rattle.gauge_lines.specs.declared.fields.Call.{Call}
 use Rattle.gauge_lines.specs.declared.fields.Call.TheVariants as C
 use Rattle.sheet_writing.specs.Writing.{writing}
 use Rattle.sheet.specs.Shown.{Wrote, wrote, wrote_by, records_of}
-use Rattle.sheet.specs.Followed.{outside_of, Went, went_on, opened, record_put, in_sheet, Followed, header_of, collected_with, listed_by}
+use Rattle.sheet.specs.Followed.{outside_of, Done, done, taken_by, told, Went, went_on, opened, record_put, in_sheet, Followed, header_of, collected_with, listed_by}
 use Rattle.sheet.specs.Followed.{collected_by, after_collect, silent_by, by_call, after_call, aside, by_records, after_step, numbered}
 use Rattle.sheet.specs.declared.collect.Turn.{Turn}
 use Rattle.sheet.specs.declared.state.State.{State}
-use Rattle.sheet.specs.declared.state.Done.{Done}
+use Rattle.sheet.specs.declared.state.Next.{Next}
 use Rattle.sheet.proofs.Sheets.{text, gone_by}
 
 -- what a line comes to, with a block of text and the stores
@@ -45,36 +43,35 @@ module _ (g : Gauge) (bs : List ℕ) (n : ℕ) (block : List ℕ) (s : Stores) (
   abbrev asked : Option ℕ → Followed
   asked y = collected_by g y (text n block) s c x b
 
-  pub collect-refused : time_of bs ≡ None → (r : Done) → r ≡ record { taken = false; state = outside_of g; text = n }
-      → left r block s c x b ≡ after_collect g bs (text n block) s c x b
+  pub collect-refused : time_of bs ≡ None → (r : Option Next) → r ≡ None
+      → left (done g n r) block s c x b ≡ after_collect g bs (text n block) s c x b
   unfolding after_collect
-  collect-refused e r p = ap (λ (y : Done). left y block s c x b) p ∙ sym (ap asked e)
+  collect-refused e r p = ap (λ (y : Option Next). left (done g n y) block s c x b) p ∙ sym (ap asked e)
 
-  module _ (time : ℕ) (e : time_of bs ≡ Some time) (a : Answer) (d : Directory) (s' : Stores) (o' : Output)
+  module _ (time : ℕ) (e : time_of bs ≡ Some time) (a : Result ℕ Refusal) (d : Directory) (s' : Stores) (o' : Output)
       (q : Collecting.gave a (held d s' c) o' ≡ delta_collected (exponential_lister g.settings.size g.settings.top)
       (g.settings.extremes, g.settings.sums) g.settings.limit (held g.dir s c) x.list) where
     abbrev listed : Source
     listed = record { list = o'; bounds = x.bounds }
 
-    collected : (y : Answer) → a ≡ y
+    by-answer : (y : Result ℕ Refusal) → a ≡ y
         → listed_by g time (text n block) x.bounds b (Collecting.gave y (held d s' c) o') ≡ after_collect g bs (text n block) s c x b
     unfolding after_collect
-    collected y p =
-        ap (λ (z : Answer). listed_by g time (text n block) x.bounds b (Collecting.gave z (held d s' c) o')) (sym p)
+    by-answer y p =
+        ap (λ (z : Result ℕ Refusal). listed_by g time (text n block) x.bounds b (Collecting.gave z (held d s' c) o')) (sym p)
         ∙ ap (listed_by g time (text n block) x.bounds b) q ∙ sym (ap asked e)
 
-    pub collect-none : (k : ℕ) → a ≡ Refused k → (r : Done) → r ≡ record { taken = false; state = outside_of g; text = n }
-        → left r block s' c listed b ≡ after_collect g bs (text n block) s c x b
-    collect-none k y r p = ap (λ (z : Done). left z block s' c listed b) p ∙ collected (Refused k) y
+    pub collect-none : (k : Refusal) → a ≡ Err k → left (done g n None) block s' c listed b ≡ after_collect g bs (text n block) s c x b
+    collect-none k y = by-answer (Err k) y
 
-    pub collect-made : (many : ℕ) → a ≡ Listed many → (k : Turn) → k ≡ record { gauge = turned_by g d time; header = header_of g time }
-        → (m : ℕ) (block' b' : List ℕ) → wrote (text m block') b' ≡ wrote_by (writing k.header many listed b) (text n block) → (r : Done)
-        → r ≡ record { taken = true; state = outside_of k.gauge; text = m }
-        → left r block' s' c listed b' ≡ after_collect g bs (text n block) s c x b
+    pub collect-made : (many : ℕ) → a ≡ Ok many → (k : Turn) → k ≡ record { gauge = turned_by g d time; header = header_of g time }
+        → (m : ℕ) (block' b' : List ℕ) → wrote (text m block') b' ≡ wrote_by (writing k.header many listed b) (text n block) → (r : Next)
+        → r ≡ record { state = outside_of k.gauge; text = m }
+        → left (done g n (Some r)) block' s' c listed b' ≡ after_collect g bs (text n block) s c x b
     collect-made many y k f m block' b' w r p =
-        ap (λ (z : Done). left z block' s' c listed b') p ∙ ap (λ (z : Wrote). collected_with k.gauge z s' c listed) w
+        ap (λ (z : Next). left (taken_by z) block' s' c listed b') p ∙ ap (λ (z : Wrote). collected_with k.gauge z s' c listed) w
         ∙ ap (λ (z : Turn). collected_with z.gauge (wrote_by (writing z.header many listed b) (text n block)) s' c listed) f
-        ∙ collected (Listed many) y
+        ∙ by-answer (Ok many) y
 
 -- ---- the gauge's lines
 
@@ -83,23 +80,31 @@ module _ (g : Gauge) (bs : List ℕ) (over : Bool) (n : ℕ) (block : List ℕ) 
   unfolding after_call
   made k e = sym (ap (λ (y : Call). by_call y g bs (text n block) s c x b) e)
 
-  pub line-none : call_of bs g.running over ≡ C.None → (r : Done) → r ≡ record { taken = true; state = outside_of g; text = n }
-      → left r block s c x b ≡ after_call g bs over (text n block) s c x b
-  line-none e r p = ap (λ (z : Done). left z block s c x b) p ∙ made C.None e
+  pub line-none : call_of bs g.running over ≡ C.None → (r : Next) → r ≡ record { state = outside_of g; text = n }
+      → left (done g n (Some r)) block s c x b ≡ after_call g bs over (text n block) s c x b
+  line-none e r p = ap (λ (z : Next). left (taken_by z) block s c x b) p ∙ made C.None e
 
-  pub line-unread : call_of bs g.running over ≡ C.Unread → (r : Done) → r ≡ record { taken = false; state = outside_of g; text = n }
-      → left r block s c x b ≡ after_call g bs over (text n block) s c x b
-  line-unread e r p = ap (λ (z : Done). left z block s c x b) p ∙ made C.Unread e
+  pub line-unread : call_of bs g.running over ≡ C.Unread → left (done g n None) block s c x b ≡ after_call g bs over (text n block) s c x b
+  line-unread e = made C.Unread e
 
-  -- after a call that prints nothing, and says k
-  module _ (k : Outcome) (r : Done) (p : r ≡ record { taken = k.taken; state = outside_of k.gauge; text = n }) (s' : Stores) (c' : Cells) where
-    pub line_record : call_of bs g.running over ≡ C.Record → after k s' c' ≡ after_record g bs s c
-        → left r block s' c' x b ≡ after_call g bs over (text n block) s c x b
+  -- after a call that prints nothing, and answers k
+  abbrev silent : Option Gauge → Done
+  silent k = record { taken = (outcome g k).taken; state = outside_of (outcome g k).gauge; text = n }
+
+  pub silent-none : (k : Option Gauge) (r : Option Next) → k ≡ None → r ≡ None → done g n r ≡ silent k
+  silent-none k r p q = ap (done g n) q ∙ sym (ap silent p)
+
+  pub silent-some : (k : Option Gauge) (h : Gauge) → k ≡ Some h → (r : Next) → r ≡ record { state = outside_of h; text = n } → done g n (Some r) ≡ silent k
+  silent-some k h p r q = ap taken_by q ∙ sym (ap silent p)
+
+  module _ (k : Option Gauge) (r : Option Next) (p : done g n r ≡ silent k) (s' : Stores) (c' : Cells) where
+    pub line_record : call_of bs g.running over ≡ C.Record → after (outcome g k) s' c' ≡ after_record g bs s c
+        → left (done g n r) block s' c' x b ≡ after_call g bs over (text n block) s c x b
     line_record e q =
         ap (λ (z : Done). left z block s' c' x b) p ∙ ap (λ (y : After). silent_by y (text n block) x b) q ∙ made C.Record e
 
-    pub line-start : call_of bs g.running over ≡ C.Start → after k s' c' ≡ after_start g bs s c
-        → left r block s' c' x b ≡ after_call g bs over (text n block) s c x b
+    pub line-start : call_of bs g.running over ≡ C.Start → after (outcome g k) s' c' ≡ after_start g bs s c
+        → left (done g n r) block s' c' x b ≡ after_call g bs over (text n block) s c x b
     line-start e q =
         ap (λ (z : Done). left z block s' c' x b) p ∙ ap (λ (y : After). silent_by y (text n block) x b) q ∙ made C.Start e
 
@@ -134,11 +139,31 @@ module _ (st : State) (bs : List ℕ) (over : Bool) (n : ℕ) (block : List ℕ)
 
 -- ---- and its number
 
--- a line that left so many bytes of a block, and then `? N` or nothing behind them
-pub line-numbered : (number : ℕ) (z : Done) (block : List ℕ) (s : Stores) (c : Cells) (x : Source) (b : List ℕ) (y : Followed)
-    → left z block s c x b ≡ y → (m : ℕ) (block' : List ℕ)
-    → text m block' ≡ pick z.taken [] (unread_line number) behind text z.text block
-    → left (record { taken = z.taken; state = z.state; text = m }) block' s c x b ≡ numbered number y
-line-numbered number z block s c x b y p m block' w =
-    ap (λ (t : Text). record { taken = z.taken; state = z.state; text = t; stores = s; cells = c; list = x; bytes = b }) w
-    ∙ ap (numbered number) p
+-- a line that was followed: nothing is said
+module _ (number : ℕ) (g : Gauge) (n : ℕ) (block : List ℕ) (s : Stores) (c : Cells) (x : Source) (b : List ℕ) where
+  taken-told : (next : Next) → left (told (numbered number (left (done g n (Some next)) block s c x b)) next) block s c x b
+      ≡ numbered number (left (done g n (Some next)) block s c x b)
+  unfolding pick ◌behind◌
+  taken-told next = refl
+
+  pub line-followed : (r : Option Next) (next : Next) → r ≡ Some next → (y : Followed) → left (done g n r) block s c x b ≡ y
+      → left (told (numbered number y) next) block s c x b ≡ numbered number y
+  line-followed r next e y p =
+      subst (λ (z : Followed). left (told (numbered number z) next) block s c x b ≡ numbered number z)
+      (ap (λ (z : Option Next). left (done g n z) block s c x b) (sym e) ∙ p) (taken-told next)
+
+  -- one that was not: `? N` behind what waits
+  refused-told : (m : ℕ) (block' : List ℕ) → text m block' ≡ (unread_line number behind text n block)
+      → left (told (numbered number (left (done g n None) block s c x b)) (record { state = outside_of g; text = m })) block' s c x b
+      ≡ numbered number (left (done g n None) block s c x b)
+  unfolding pick
+  refused-told m block' w =
+      ap (λ (t : Text). record { taken = false; state = outside_of g; text = t; stores = s; cells = c; list = x; bytes = b }) w
+
+  pub line-refused : (r : Option Next) → r ≡ None → (y : Followed) → left (done g n r) block s c x b ≡ y → (m : ℕ) (block' : List ℕ)
+      → text m block' ≡ (unread_line number behind text n block) → (k : Next) → k ≡ record { state = outside_of g; text = m }
+      → left (told (numbered number y) k) block' s c x b ≡ numbered number y
+  line-refused r e y p m block' w k q =
+      ap (λ (z : Next). left (told (numbered number y) z) block' s c x b) q
+      ∙ subst (λ (z : Followed). left (told (numbered number z) (record { state = outside_of g; text = m })) block' s c x b ≡ numbered number z)
+      (ap (λ (z : Option Next). left (done g n z) block s c x b) (sym e) ∙ p) (refused-told m block' w)

@@ -9,7 +9,9 @@ use borrow.Author.Tests.{lt-ltb, le-ltb, le-leb, lt-leb, eq-eqb, ne_eqb}
 use Rattle.laws.proofs.Bools.{pick_true, pick-false}
 use Rattle.text.specs.Numbers.{decimal_of}
 use Rattle.text.specs.Fields.{spaces_of, field_of}
-use Rattle.std.specs.Prelude.{Option, Some, None}
+use Rattle.std.specs.Prelude.{Option, Some, None, Result, Ok, Err}
+use Rattle.refusals.specs.Refusals.{said, number}
+use Rattle.refusals.specs.declared.Refusal.{Refusal}
 use Rattle.lines.specs.Gathered.{Text, ◌behind◌}
 use Rattle.pooling.specs.Lists.{Source}
 use Rattle.printing.specs.Printed.{collection_lines}
@@ -17,18 +19,14 @@ use Rattle.printing.specs.declared.Form.TheVariants.{Point}
 use Rattle.sheets.specs.declared.Header.{Header}
 use Rattle.sheet_writing.specs.Writing as Writing
 use Rattle.sheet_writing.specs.Writing.{writing}
-use Rattle.sheet_writing.specs.declared.Answer as W
-use Rattle.sheet_writing.specs.declared.Answer.TheVariants as WA
 use Rattle.sheet_reading.specs.Reading as Reading
 use Rattle.sheet_reading.specs.Reading.{reading}
-use Rattle.sheet_reading.specs.declared.Answer as R
-use Rattle.sheet_reading.specs.declared.Answer.TheVariants as Ra
 use Rattle.sheet_reading.specs.declared.Listed.{Listed}
 use Rattle.sheet.specs.Digits.{is_record, bytes_in}
 use Rattle.sheet.specs.Shown.{refusal_line, sheet_lines, wrote, wrote_by, few_in, records_of, Shown, shown, shown_by}
-use Rattle.sheet.specs.Followed.{outside_of, Went, read_by, went_on, no_line, record_put, in_sheet}
+use Rattle.sheet.specs.Followed.{outside_of, Done, done, taken_by, Went, read_by, went_on, no_line, record_put, in_sheet}
 use Rattle.sheet.specs.declared.state.State.{State}
-use Rattle.sheet.specs.declared.state.Done.{Done}
+use Rattle.sheet.specs.declared.state.Next.{Next}
 
 -- a block of text of which n bytes wait
 abbrev pub text : ℕ → List ℕ → Text
@@ -36,34 +34,34 @@ text n block = record { count = n; block = block }
 
 -- ---- written
 
-module _ (h : Header) (many : ℕ) (x : Source) (s : List ℕ) (t : Text) (a : W.Answer) (s' : List ℕ)
-    (q : Writing.ends (Writing.said a) s' ≡ writing h many x s) where
-  wrote_by_lem : (y : W.Answer) → a ≡ y → wrote_by (Writing.ends (Writing.said y) s') t ≡ wrote_by (writing h many x s) t
+module _ (h : Header) (many : ℕ) (x : Source) (s : List ℕ) (t : Text) (a : Result ℕ Refusal) (s' : List ℕ)
+    (q : Writing.ends (said a) s' ≡ writing h many x s) where
+  wrote_by_lem : (y : Result ℕ Refusal) → a ≡ y → wrote_by (Writing.ends (said y) s') t ≡ wrote_by (writing h many x s) t
   wrote_by_lem y e =
-      ap (λ (z : W.Answer). wrote_by (Writing.ends (Writing.said z) s') t) (sym e) ∙ ap (λ (o : Writing.Outcome). wrote_by o t) q
+      ap (λ (z : Result ℕ Refusal). wrote_by (Writing.ends (said z) s') t) (sym e) ∙ ap (λ (o : Writing.Outcome). wrote_by o t) q
 
-  pub write-refused : (k : ℕ) → a ≡ WA.Refused k → (u : Text) → u ≡ (refusal_line k behind t) → wrote u s' ≡ wrote_by (writing h many x s) t
-  write-refused k e u p = ap (λ (v : Text). wrote v s') p ∙ wrote_by_lem (WA.Refused k) e
+  pub write-refused : (k : Refusal) → a ≡ Err k → (u : Text) → u ≡ (refusal_line (number k) behind t) → wrote u s' ≡ wrote_by (writing h many x s) t
+  write-refused k e u p = ap (λ (v : Text). wrote v s') p ∙ wrote_by_lem (Err k) e
 
-  pub write-made : (size : ℕ) → a ≡ WA.Written size → (bs : List ℕ) → bs ≡ take size s' → (u : Text)
+  pub write-made : (size : ℕ) → a ≡ Ok size → (bs : List ℕ) → bs ≡ take size s' → (u : Text)
       → u ≡ (sheet_lines bs behind t) → wrote u s' ≡ wrote_by (writing h many x s) t
   write-made size e bs f u p =
-      ap (λ (v : Text). wrote v s') (p ∙ ap (λ (l : List ℕ). sheet_lines l behind t) f) ∙ wrote_by_lem (WA.Written size) e
+      ap (λ (v : Text). wrote v s') (p ∙ ap (λ (l : List ℕ). sheet_lines l behind t) f) ∙ wrote_by_lem (Ok size) e
 
 -- ---- read
 
-module _ (bs : List ℕ) (x : Source) (t : Text) (a : R.Answer) (x' : Source) (q : Reading.ends (Reading.said a) x' ≡ reading bs x) where
-  shown_by_lem : (y : R.Answer) → a ≡ y → shown_by (Reading.ends (Reading.said y) x') t ≡ shown_by (reading bs x) t
+module _ (bs : List ℕ) (x : Source) (t : Text) (a : Result Listed Refusal) (x' : Source) (q : Reading.ends (said a) x' ≡ reading bs x) where
+  shown_by_lem : (y : Result Listed Refusal) → a ≡ y → shown_by (Reading.ends (said y) x') t ≡ shown_by (reading bs x) t
   shown_by_lem y e =
-      ap (λ (z : R.Answer). shown_by (Reading.ends (Reading.said z) x') t) (sym e) ∙ ap (λ (o : Reading.Outcome). shown_by o t) q
+      ap (λ (z : Result Listed Refusal). shown_by (Reading.ends (said z) x') t) (sym e) ∙ ap (λ (o : Reading.Outcome). shown_by o t) q
 
-  pub show-refused : (k : ℕ) → a ≡ Ra.Refused k → (u : Text) → u ≡ (refusal_line k behind t) → shown u x' ≡ shown_by (reading bs x) t
-  show-refused k e u p = ap (λ (v : Text). shown v x') p ∙ shown_by_lem (Ra.Refused k) e
+  pub show-refused : (k : Refusal) → a ≡ Err k → (u : Text) → u ≡ (refusal_line (number k) behind t) → shown u x' ≡ shown_by (reading bs x) t
+  show-refused k e u p = ap (λ (v : Text). shown v x') p ∙ shown_by_lem (Err k) e
 
-  pub show-made : (l : Listed) → a ≡ Ra.Is l → (u : Text)
+  pub show-made : (l : Listed) → a ≡ Ok l → (u : Text)
       → u ≡ (collection_lines Point l.header.start l.header.time l.points x'.list x'.bounds behind t)
       → shown u x' ≡ shown_by (reading bs x) t
-  show-made l e u p = ap (λ (v : Text). shown v x') p ∙ shown_by_lem (Ra.Is l) e
+  show-made l e u p = ap (λ (v : Text). shown v x') p ∙ shown_by_lem (Ok l) e
 
 -- ---- `s RECORDS`
 
@@ -126,15 +124,15 @@ module _ (st : State) (bs : List ℕ) (over : Bool) (n : ℕ) (block : List ℕ)
   abbrev Comes : Went → List ℕ → Type 0
   Comes y s' = (y ≡ in_sheet st bs over (text n block) x s) × (s' ≡ record_put st bs over s)
 
-  pub input-ends : no_line bs over ≡ true → (r : Done) → r ≡ record { taken = true; state = outside_of st.gauge; text = n } → Comes (gone_by r block x) s
+  pub input-ends : no_line bs over ≡ true → (r : Next) → r ≡ record { state = outside_of st.gauge; text = n } → Comes (gone_by (taken_by r) block x) s
   unfolding in_sheet record_put
-  input-ends h r p = (ap (λ (y : Done). gone_by y block x) p ∙ sym (pick_true _ _ _ h), sym (pick_true _ _ _ h))
+  input-ends h r p = (ap (λ (y : Next). gone_by (taken_by y) block x) p ∙ sym (pick_true _ _ _ h), sym (pick_true _ _ _ h))
 
   module _ (h : no_line bs over ≡ false) where
-    pub no_record : is_record bs ≡ false → (r : Done) → r ≡ record { taken = false; state = outside_of st.gauge; text = n } → Comes (gone_by r block x) s
+    pub no_record : is_record bs ≡ false → Comes (gone_by (done st.gauge n None) block x) s
     unfolding in_sheet record_put
-    no_record k r p = (
-      ap (λ (y : Done). gone_by y block x) p ∙ sym (pick-false _ _ _ h ∙ pick-false _ _ _ k),
+    no_record k = (
+      sym (pick-false _ _ _ h ∙ pick-false _ _ _ k),
       sym (pick-false _ _ _ h ∙ pick-false _ _ _ k),
     )
 

@@ -27,9 +27,11 @@ fn digits_of(out: &Stdout, text: &mut Block, n: usize, bytes: &[u8]) -> usize
     ensures { waiting result text.new ≡ hex_of bytes.now behind waiting n text.old }
 {
     let mut m = n;
-    for byte in bytes {
-        let a = output::byte(out, text, m, glyph(*byte / 16));
-        m = output::byte(out, text, a, glyph(*byte % 16));
+    let mut i: usize = 0;
+    while i < bytes.len() {
+        let a = output::byte(out, text, m, glyph(bytes[i] / 16));
+        m = output::byte(out, text, a, glyph(bytes[i] % 16));
+        i += 1;
     }
     m
 }
@@ -46,10 +48,14 @@ fn record_line(out: &Stdout, text: &mut Block, n: usize, bytes: &[u8]) -> usize
 pub fn record_lines(out: &Stdout, text: &mut Block, n: usize, bytes: &[u8]) -> usize
     ensures { waiting result text.new ≡ record_lines (length bytes.now / 32) bytes.now behind waiting n text.old }
 {
+    let many = bytes.len() / 32;
     let mut m = n;
-    for k in 0..bytes.len() / 32 {
+    let mut k: usize = 0;
+    while k < many {
         let a = k * 32;
-        m = record_line(out, text, m, &bytes[a..a + 32]);
+        let e = a + 32;
+        m = record_line(out, text, m, &bytes[a..e]);
+        k += 1;
     }
     m
 }
@@ -78,10 +84,12 @@ fn digit(byte: u8) -> u8
 fn are_digits(bytes: &[u8]) -> bool
     ensures { result ≡ all_of is_digit bytes.now }
 {
-    for byte in bytes {
-        if digit(*byte) > 15 {
+    let mut i: usize = 0;
+    while i < bytes.len() {
+        if digit(bytes[i]) > 15 {
             return false;
         }
+        i += 1;
     }
     true
 }
@@ -117,8 +125,10 @@ pub fn put(sheet: &mut Bytes, at: usize, line: &[u8]) -> usize
     ensures sheet_after { sheet.new ≡ sets sheet.old (min at 233472) (bytes_in line.now) }
 {
     let from = lesser(at, 233472);
-    for i in 0..32 {
+    let mut i: usize = 0;
+    while i < 32 {
         sheet[from + i] = byte_of(line[2 * i], line[2 * i + 1]);
+        i += 1;
     }
     from + 32
 }

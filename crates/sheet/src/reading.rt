@@ -137,7 +137,10 @@ pub fn begin(
 fn is_none(line: &[u8], over: bool) -> bool
     ensures { result ≡ no_line line.now over }
 {
-    line.len() == 0 && over
+    if line.len() == 0 {
+        return over;
+    }
+    false
 }
 
 // Follows a line in a sheet: one that is no record ends it.

@@ -3,7 +3,7 @@ use mathlib.Core.Path.{sym, ◌∙◌}
 use Rattle.directory.specs.View.{Stores, stores}
 use Rattle.exponential_slots.specs.Cells.{Cells, cells}
 use Rattle.listing.specs.Listed.{Output, output}
-use Rattle.gauge_lines.proofs.Following.{line-none, line-unread, line_record, line-start, line-collect}
+use Rattle.gauge_lines.proofs.Following.{line-none, line-unread, silent-none, silent-some, line_record, line-start, line-collect}
 use Rattle.gauge_lines.proofs.make.Goals as goal
 
 pub returns-in-None : goal.returns-in-None
@@ -12,8 +12,7 @@ returns-in-None c =
     let lent : Cells = let a = c.args in cells a.figures.now a.extremes.now a.pos.now a.neg.now in
     let outs : Output = let a = c.args in output a.out_sets.now a.out_words.now a.out_pos.now a.out_neg.now in
     let a = c.args in
-    line-none a.form a.g a.line.now a.over a.n a.text.now (dirs) (lent) (outs)
-    (sym c.call_in-call.ensures ∙ c.in-None.is)
+    line-none a.form a.g a.line.now a.over a.n a.text.now (dirs) (lent) (outs) (sym c.call_in.ensures ∙ c.in-None.is)
 
 pub returns-in-Unread : goal.returns-in-Unread
 returns-in-Unread c =
@@ -21,8 +20,16 @@ returns-in-Unread c =
     let lent : Cells = let a = c.args in cells a.figures.now a.extremes.now a.pos.now a.neg.now in
     let outs : Output = let a = c.args in output a.out_sets.now a.out_words.now a.out_pos.now a.out_neg.now in
     let a = c.args in
-    line-unread a.form a.g a.line.now a.over a.n a.text.now (dirs) (lent) (outs) c.refused.result
-    c.silent.result c.silent.ensures (sym c.call_in-call.ensures ∙ c.in-Unread.is) c.refused.ensures
+    line-unread a.form a.g a.line.now a.over a.n a.text.now (dirs) (lent) (outs) (sym c.call_in.ensures ∙ c.in-Unread.is)
+
+pub returns-in_err-gauge : goal.returns-in_err-gauge
+returns-in_err-gauge c =
+    let dirs : Stores = let a = c.args in stores a.sets.now a.entries.now a.order.now in
+    let lent : Cells = let a = c.args in cells a.figures.now a.extremes.now a.pos.now a.neg.now in
+    let outs : Output = let a = c.args in output a.out_sets.now a.out_words.now a.out_pos.now a.out_neg.now in
+    let a = c.args in
+    line_record a.form a.g a.line.now a.over a.n a.text.now (dirs) (lent) (outs) c.record.result c.from_residual.result
+    (silent-none a.form a.g a.line.now a.over a.n a.text.now (dirs) (lent) (outs) _ _ c.in_err-gauge.was c.from_residual.ensures) _ _ (sym c.call_in.ensures ∙ c.in-Record.is) c.record.ensures
 
 pub returns-in-Record : goal.returns-in-Record
 returns-in-Record c =
@@ -30,8 +37,17 @@ returns-in-Record c =
     let lent : Cells = let a = c.args in cells a.figures.now a.extremes.now a.pos.now a.neg.now in
     let outs : Output = let a = c.args in output a.out_sets.now a.out_words.now a.out_pos.now a.out_neg.now in
     let a = c.args in
-    line_record a.form a.g a.line.now a.over a.n a.text.now (dirs) (lent) (outs) c.record-o.result
-    c.silent-in-Record.result c.silent-in-Record.ensures _ _ (sym c.call_in-call.ensures ∙ c.in-Record.is) c.record-o.ensures
+    line_record a.form a.g a.line.now a.over a.n a.text.now (dirs) (lent) (outs) c.record.result _
+    (silent-some a.form a.g a.line.now a.over a.n a.text.now (dirs) (lent) (outs) _ _ c.in_ok-gauge.was) _ _ (sym c.call_in.ensures ∙ c.in-Record.is) c.record.ensures
+
+pub returns-in_err-gauge-in-Start : goal.returns-in_err-gauge-in-Start
+returns-in_err-gauge-in-Start c =
+    let dirs : Stores = let a = c.args in stores a.sets.now a.entries.now a.order.now in
+    let lent : Cells = let a = c.args in cells a.figures.now a.extremes.now a.pos.now a.neg.now in
+    let outs : Output = let a = c.args in output a.out_sets.now a.out_words.now a.out_pos.now a.out_neg.now in
+    let a = c.args in
+    line-start a.form a.g a.line.now a.over a.n a.text.now (dirs) (lent) (outs) c.start.result c.from_residual-in-Start.result
+    (silent-none a.form a.g a.line.now a.over a.n a.text.now (dirs) (lent) (outs) _ _ c.in_err-gauge-in-Start.was c.from_residual-in-Start.ensures) _ _ (sym c.call_in.ensures ∙ c.in-Start.is) c.start.ensures
 
 pub returns-in-Start : goal.returns-in-Start
 returns-in-Start c =
@@ -39,8 +55,8 @@ returns-in-Start c =
     let lent : Cells = let a = c.args in cells a.figures.now a.extremes.now a.pos.now a.neg.now in
     let outs : Output = let a = c.args in output a.out_sets.now a.out_words.now a.out_pos.now a.out_neg.now in
     let a = c.args in
-    line-start a.form a.g a.line.now a.over a.n a.text.now (dirs) (lent) (outs) c.start-o.result
-    c.silent-in-Start.result c.silent-in-Start.ensures _ _ (sym c.call_in-call.ensures ∙ c.in-Start.is) c.start-o.ensures
+    line-start a.form a.g a.line.now a.over a.n a.text.now (dirs) (lent) (outs) c.start.result _
+    (silent-some a.form a.g a.line.now a.over a.n a.text.now (dirs) (lent) (outs) _ _ c.in_ok-gauge-in-Start.was) _ _ (sym c.call_in.ensures ∙ c.in-Start.is) c.start.ensures
 
 pub returns-in-Collect : goal.returns-in-Collect
 returns-in-Collect c =
@@ -48,5 +64,4 @@ returns-in-Collect c =
     let lent : Cells = let a = c.args in cells a.figures.now a.extremes.now a.pos.now a.neg.now in
     let outs : Output = let a = c.args in output a.out_sets.now a.out_words.now a.out_pos.now a.out_neg.now in
     let a = c.args in
-    line-collect a.form a.g a.line.now a.over a.n a.text.now (dirs) (lent) (outs)
-    (sym c.call_in-call.ensures ∙ c.in-Collect.is) _ c.collect.ensures
+    line-collect a.form a.g a.line.now a.over a.n a.text.now (dirs) (lent) (outs) (sym c.call_in.ensures ∙ c.in-Collect.is) _ c.collect.ensures

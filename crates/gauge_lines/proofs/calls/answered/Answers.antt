@@ -1,21 +1,22 @@
 -- `gauge_lines::calls::answered` meets its contract. Assumes nothing.
+use Prim.Native.Nat.{ℕ}
 use mathlib.Core.Path.{sym, ap, ◌∙◌}
+use Rattle.std.specs.Prelude.{Option, Some, Result}
+use Rattle.refusals.specs.declared.Refusal.{Refusal}
 use Rattle.bindings.specs.Calls.{said}
-use Rattle.bindings.specs.declared.Answer.{Answer}
-use Rattle.gauge_lines.specs.Followed.{answered_by}
+use Rattle.gauge_lines.specs.declared.cells.Gauge.{Gauge}
+use Rattle.gauge_lines.specs.Followed.{outcome, answered_by}
+use Rattle.gauge_lines.proofs.Following.{taken-said}
 use Rattle.gauge_lines.proofs.calls.answered.Goals as goal
 
-pub returns-in-Refused : goal.returns-in-Refused
-returns-in-Refused c =
+pub returns-in-Ok : goal.returns-in-Ok
+returns-in-Ok c =
     let a = c.args in
-    c.refused.ensures ∙ sym (ap (λ (x : Answer). answered_by a.g (said x) a.reply.dir) c.in-Refused.is)
+    ap (λ (x : Gauge). outcome a.g (Some x)) c.with.ensures
+    ∙ taken-said a.g a.reply.dir _
+    ∙ sym (ap (λ (x : Result (Option ℕ) Refusal). answered_by a.g (said x) a.reply.dir) c.in-Ok.is)
 
-pub returns-in-Done : goal.returns-in-Done
-returns-in-Done c =
+pub returns-in-Err : goal.returns-in-Err
+returns-in-Err c =
     let a = c.args in
-    c.with.ensures ∙ sym (ap (λ (x : Answer). answered_by a.g (said x) a.reply.dir) c.in-Done.is)
-
-pub returns-in-Handle : goal.returns-in-Handle
-returns-in-Handle c =
-    let a = c.args in
-    c.with-in-Handle.ensures ∙ sym (ap (λ (x : Answer). answered_by a.g (said x) a.reply.dir) c.in-Handle.is)
+    sym (ap (λ (x : Result (Option ℕ) Refusal). answered_by a.g (said x) a.reply.dir) c.in-Err.is)

@@ -6,32 +6,32 @@ use Rattle.listing.specs.Listed.{Output, output}
 use Rattle.gauge_lines.proofs.Following.{collect-refused, collect-none, collect-made}
 use Rattle.gauge_lines.proofs.collect.collect.Goals as goal
 
-pub returns-in_default : goal.returns-in_default
-returns-in_default c =
+pub returns-in_err-time : goal.returns-in_err-time
+returns-in_err-time c =
     let dirs : Stores = let a = c.args in stores a.sets.now a.entries.now a.order.now in
     let lent : Cells = let a = c.args in cells a.figures.now a.extremes.now a.pos.now a.neg.now in
     let outs : Output = let a = c.args in output a.out_sets.now a.out_words.now a.out_pos.now a.out_neg.now in
     let a = c.args in
     collect-refused a.form a.g a.line.now a.n a.text.now (dirs) (lent) (outs)
-    (sym c.time_in.ensures ∙ c.in_default.is) c.refused.result c.refused.ensures
+    (sym c.time_in.ensures ∙ c.in_err-time.was) c.from_residual.result c.from_residual.ensures
 
-pub returns-in-Refused : goal.returns-in-Refused
-returns-in-Refused c =
+pub returns-in-Err : goal.returns-in-Err
+returns-in-Err c =
     let dirs : Stores = let a = c.args in stores a.sets.now a.entries.now a.order.now in
     let lent : Cells = let a = c.args in cells a.figures.now a.extremes.now a.pos.now a.neg.now in
     let outs : Output = let a = c.args in output a.out_sets.now a.out_words.now a.out_pos.now a.out_neg.now in
     let a = c.args in
-    collect-none a.form a.g a.line.now a.n a.text.now (dirs) (lent) (outs) c.in-Some.time
-    (sym c.time_in.ensures ∙ c.in-Some.is) c.delta-reply.result.answer c.delta-reply.result.dir _ _ c.delta-reply.ensures
-    _ c.in-Refused.is c.refused-in-Refused.result c.refused-in-Refused.ensures
+    collect-none a.form a.g a.line.now a.n a.text.now (dirs) (lent) (outs) c.in_ok-time.time
+    (sym c.time_in.ensures ∙ c.in_ok-time.was) c.delta-reply.result.answer c.delta-reply.result.dir _ _ c.delta-reply.ensures
+    _ c.in-Err.is
 
-pub returns-in-Listed : goal.returns-in-Listed
-returns-in-Listed c =
+pub returns-in-Ok : goal.returns-in-Ok
+returns-in-Ok c =
     let dirs : Stores = let a = c.args in stores a.sets.now a.entries.now a.order.now in
     let lent : Cells = let a = c.args in cells a.figures.now a.extremes.now a.pos.now a.neg.now in
     let outs : Output = let a = c.args in output a.out_sets.now a.out_words.now a.out_pos.now a.out_neg.now in
     let a = c.args in
-    collect-made a.form a.g a.line.now a.n a.text.now (dirs) (lent) (outs) c.in-Some.time
-    (sym c.time_in.ensures ∙ c.in-Some.is) c.delta-reply.result.answer c.delta-reply.result.dir _ _ c.delta-reply.ensures
-    c.in-Listed.many c.in-Listed.is c.turned-t.result c.turned-t.ensures
+    collect-made a.form a.g a.line.now a.n a.text.now (dirs) (lent) (outs) c.in_ok-time.time
+    (sym c.time_in.ensures ∙ c.in_ok-time.was) c.delta-reply.result.answer c.delta-reply.result.dir _ _ c.delta-reply.ensures
+    c.in-Ok.many c.in-Ok.is c.turned-t.result c.turned-t.ensures
     c.collection-end.result _ c.collection-end.ensures

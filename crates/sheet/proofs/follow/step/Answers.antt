@@ -22,7 +22,7 @@ returns-in-Some c =
     let outs : Source = let a = c.args in source a.out_sets.now a.out_words.now a.out_pos.now a.out_neg.now a.bounds.now in
     let a = c.args in
     step-begins a.st a.line.now a.over a.n a.text.now (dirs) (lent) (outs) a.sheet.now c.if-st-gt0.false
-    c.in-Some.records (sym c.records_in-asked.ensures ∙ c.in-Some.is) c.begin.result _ _ c.begin.ensures
+    c.in-Some.records (sym c.records_in.ensures ∙ c.in-Some.is) c.begin.result _ _ c.begin.ensures
 
 pub returns-in-None : goal.returns-in-None
 returns-in-None c =
@@ -31,4 +31,4 @@ returns-in-None c =
     let outs : Source = let a = c.args in source a.out_sets.now a.out_words.now a.out_pos.now a.out_neg.now a.bounds.now in
     let a = c.args in
     step-calls a.st a.line.now a.over a.n a.text.now (dirs) (lent) (outs) a.sheet.now c.if-st-gt0.false
-    (sym c.records_in-asked.ensures ∙ c.in-None.is) _ c.make.ensures
+    (sym c.records_in.ensures ∙ c.in-None.is) _ c.make.ensures

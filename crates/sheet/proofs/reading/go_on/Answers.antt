@@ -14,4 +14,4 @@ pub returns : goal.returns
 returns c =
     let listed : Source = let a = c.args in source a.sets.now a.words.now a.pos.now a.neg.now a.bounds.now in
     let a = c.args in
-    is_read a.st (waiting a.n a.text.now) (listed) a.sheet.now c.if-st-gt0.false _ c.front-bytes.ensures _ c.show-end.ensures
+    is_read a.st (waiting a.n a.text.now) (listed) a.sheet.now c.if-st-gt0.false _ c.front-bytes.ensures _ c.show.ensures

@@ -1,7 +1,11 @@
 -- `sheet::writing::refusal` meets its contract. Assumes nothing.
+use Prim.Native.Nat.{ℕ}
+use mathlib.Core.Path.{ap}
 use mathlib.Core.List.{[], ◌∷◌}
 use Rattle.lines.specs.Gathered.{waiting}
 use Rattle.lines.specs.Written.{decimal}
+use Rattle.lines.proofs.Gathering.{spelt}
+use Rattle.refusals.specs.Refusals.{number}
 use Rattle.printing.proofs.Putting.{a-line, a-field, no_field}
 use Rattle.sheet.specs.Shown.{refusal_line}
 use Rattle.sheet.proofs.writing.refusal.Goals as goal
@@ -10,5 +14,6 @@ pub returns : goal.returns
 unfolding refusal_line
 returns c =
     let a = c.args in
-    a-line (33 ∷ []) (decimal a.no ∷ []) (waiting a.n a.text.now) c.byte-a.ensures
-    (a-field 32 _ (decimal a.no) [] c.number-b.ensures (no_field 32 _)) c.byte.ensures
+    let no = number a.no in
+    a-line (33 ∷ []) (decimal no ∷ []) (waiting a.n a.text.now) c.byte-a.ensures
+    (a-field 32 _ (decimal no) [] (spelt (ap (λ (k : ℕ). 32 ∷ decimal k) c.number.ensures) _ c.number-b.ensures) (no_field 32 _)) c.byte.ensures

@@ -1,5 +1,6 @@
 -- `gauge_lines::make` meets its contract. Assumes nothing.
 use mathlib.Core.Path.{sym, ◌∙◌}
+use Rattle.std.specs.Prelude.{Some}
 use Rattle.directory.specs.View.{Stores, stores}
 use Rattle.exponential_slots.specs.Cells.{Cells, cells}
 use Rattle.listing.specs.Listed.{Output, output}
@@ -22,23 +23,23 @@ returns-in-Unread c =
     let a = c.args in
     line-unread a.form a.g a.line.now a.over a.n a.text.now (dirs) (lent) (outs) (sym c.call_in.ensures ∙ c.in-Unread.is)
 
-pub returns-in_err-gauge : goal.returns-in_err-gauge
-returns-in_err-gauge c =
+pub returns-in_err-gauge-in-Record : goal.returns-in_err-gauge-in-Record
+returns-in_err-gauge-in-Record c =
     let dirs : Stores = let a = c.args in stores a.sets.now a.entries.now a.order.now in
     let lent : Cells = let a = c.args in cells a.figures.now a.extremes.now a.pos.now a.neg.now in
     let outs : Output = let a = c.args in output a.out_sets.now a.out_words.now a.out_pos.now a.out_neg.now in
     let a = c.args in
     line_record a.form a.g a.line.now a.over a.n a.text.now (dirs) (lent) (outs) c.record.result c.from_residual.result
-    (silent-none a.form a.g a.line.now a.over a.n a.text.now (dirs) (lent) (outs) _ _ c.in_err-gauge.was c.from_residual.ensures) _ _ (sym c.call_in.ensures ∙ c.in-Record.is) c.record.ensures
+    (silent-none a.form a.g a.line.now a.over a.n a.text.now (dirs) (lent) (outs) _ _ c.in_err-gauge-in-Record.was c.from_residual.ensures) _ _ (sym c.call_in.ensures ∙ c.in-Record.is) c.record.ensures
 
-pub returns-in-Record : goal.returns-in-Record
-returns-in-Record c =
+pub returns-in_ok-gauge-in-Record : goal.returns-in_ok-gauge-in-Record
+returns-in_ok-gauge-in-Record c =
     let dirs : Stores = let a = c.args in stores a.sets.now a.entries.now a.order.now in
     let lent : Cells = let a = c.args in cells a.figures.now a.extremes.now a.pos.now a.neg.now in
     let outs : Output = let a = c.args in output a.out_sets.now a.out_words.now a.out_pos.now a.out_neg.now in
     let a = c.args in
-    line_record a.form a.g a.line.now a.over a.n a.text.now (dirs) (lent) (outs) c.record.result _
-    (silent-some a.form a.g a.line.now a.over a.n a.text.now (dirs) (lent) (outs) _ _ c.in_ok-gauge.was) _ _ (sym c.call_in.ensures ∙ c.in-Record.is) c.record.ensures
+    line_record a.form a.g a.line.now a.over a.n a.text.now (dirs) (lent) (outs) c.record.result (Some (record { gauge = c.in_ok-gauge-in-Record.gauge; text = a.n }))
+    (silent-some a.form a.g a.line.now a.over a.n a.text.now (dirs) (lent) (outs) _ _ c.in_ok-gauge-in-Record.was) _ _ (sym c.call_in.ensures ∙ c.in-Record.is) c.record.ensures
 
 pub returns-in_err-gauge-in-Start : goal.returns-in_err-gauge-in-Start
 returns-in_err-gauge-in-Start c =
@@ -46,16 +47,16 @@ returns-in_err-gauge-in-Start c =
     let lent : Cells = let a = c.args in cells a.figures.now a.extremes.now a.pos.now a.neg.now in
     let outs : Output = let a = c.args in output a.out_sets.now a.out_words.now a.out_pos.now a.out_neg.now in
     let a = c.args in
-    line-start a.form a.g a.line.now a.over a.n a.text.now (dirs) (lent) (outs) c.start.result c.from_residual-in-Start.result
-    (silent-none a.form a.g a.line.now a.over a.n a.text.now (dirs) (lent) (outs) _ _ c.in_err-gauge-in-Start.was c.from_residual-in-Start.ensures) _ _ (sym c.call_in.ensures ∙ c.in-Start.is) c.start.ensures
+    line-start a.form a.g a.line.now a.over a.n a.text.now (dirs) (lent) (outs) c.start.result c.from_residual-in_err-gauge-in-Start.result
+    (silent-none a.form a.g a.line.now a.over a.n a.text.now (dirs) (lent) (outs) _ _ c.in_err-gauge-in-Start.was c.from_residual-in_err-gauge-in-Start.ensures) _ _ (sym c.call_in.ensures ∙ c.in-Start.is) c.start.ensures
 
-pub returns-in-Start : goal.returns-in-Start
-returns-in-Start c =
+pub returns-in_ok-gauge-in-Start : goal.returns-in_ok-gauge-in-Start
+returns-in_ok-gauge-in-Start c =
     let dirs : Stores = let a = c.args in stores a.sets.now a.entries.now a.order.now in
     let lent : Cells = let a = c.args in cells a.figures.now a.extremes.now a.pos.now a.neg.now in
     let outs : Output = let a = c.args in output a.out_sets.now a.out_words.now a.out_pos.now a.out_neg.now in
     let a = c.args in
-    line-start a.form a.g a.line.now a.over a.n a.text.now (dirs) (lent) (outs) c.start.result _
+    line-start a.form a.g a.line.now a.over a.n a.text.now (dirs) (lent) (outs) c.start.result (Some (record { gauge = c.in_ok-gauge-in-Start.gauge; text = a.n }))
     (silent-some a.form a.g a.line.now a.over a.n a.text.now (dirs) (lent) (outs) _ _ c.in_ok-gauge-in-Start.was) _ _ (sym c.call_in.ensures ∙ c.in-Start.is) c.start.ensures
 
 pub returns-in-Collect : goal.returns-in-Collect

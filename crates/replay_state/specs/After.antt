@@ -9,7 +9,7 @@ use Rattle.refusals.specs.declared.Refusal.{Refusal}
 use Rattle.refusals.specs.declared.Refusal.TheVariants as V
 use Rattle.replay_state.specs.declared.State.{State}
 use Rattle.replay_state.specs.declared.Fault.{Fault}
-use Rattle.replay_state.specs.declared.Fault.TheVariants.{Refused}
+use Rattle.replay_state.specs.declared.Fault.TheVariants.{Unread, Refused}
 
 -- whether a kind's letter is that of sums, `s`, or of last values, `l`
 abbrev pub single : ℕ → Bool
@@ -23,7 +23,7 @@ whole kind = eqb kind 69 || eqb kind 88
 abbrev pub field : State → ℕ → ℕ
 field s k = get_or s.f k 0
 
--- the refusal that has a number, from 1 to 16
+-- the refusal that has a number, from 1 to 16; of any other, which no call answers, the first
 abbrev pub refusal_of : ℕ → Refusal
 refusal_of n =
     get_or
@@ -74,6 +74,9 @@ answered s n told dir handles start listed collected =
       listed = listed;
       collected = collected;
     }
+
+abbrev pub unread_by : State → State
+unread_by s = answered s (Err Unread) s.told s.dir s.handles s.start s.listed s.collected
 
 abbrev pub refused_by : ℕ → State → State
 refused_by n s = answered s (refused n) s.told s.dir s.handles s.start s.listed s.collected

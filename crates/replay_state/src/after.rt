@@ -4,7 +4,7 @@ ghost use Rattle.std.proofs.Math.Option.{some};
 ghost use Rattle.laws.specs.Said.{success};
 ghost use Rattle.bindings.specs.Calls as bindings-calls;
 ghost use Rattle.refusals.specs.Refusals.{number, said};
-ghost use Rattle.replay_state.specs.After.{answered, accepted, refused_by, accepted_in, not_begun, newly_begun, done_by, collected_by};
+ghost use Rattle.replay_state.specs.After.{answered, accepted, unread_by, refused_by, accepted_in, not_begun, newly_begun, done_by, collected_by};
 
 use crate::{Fault, State};
 use bindings::Reply;
@@ -13,7 +13,9 @@ use directory::Directory;
 use refusals::Refusal;
 
 // A line that can't be read.
-pub fn unread(s: State) -> State {
+pub fn unread(s: State) -> State
+    ensures { result ≡ unread_by s }
+{
     let mut next = s;
     next.no = Err(Fault::Unread);
     next

@@ -1,5 +1,5 @@
 -- `sheet_reading::copy::copy_points` meets its contract. Assumes nothing.
-use Prim.Native.Nat.{ℕ, ◌-◌}
+use Prim.Native.Nat.{ℕ}
 use mathlib.Core.List.{List}
 use lib.Ieee.{Float}
 use Rattle.pooling.specs.Lists.{Source}

@@ -1,5 +1,4 @@
 -- `sheet_reading::judge::judge` meets its contract. Assumes nothing.
-use Prim.Native.Nat.{◌-◌}
 use Rattle.sheet_reading.proofs.TurnLaws.{Unjudged}
 use Rattle.sheet_reading.proofs.judge.judge.Given as goal
 

@@ -1,7 +1,6 @@
 -- `sheet_reading::words::read_floats` meets its contract. Assumes nothing.
-use Prim.Native.Nat.{◌-◌, ◌≤◌}
 use mathlib.Core.Path.{◌≡◌}
-use lib.ListN.{length, take}
+use lib.ListN.{take}
 use Rattle.sheet_reading.specs.Inner.{floats_at}
 use Rattle.sheet_reading.proofs.words.read_floats.Given as goal
 

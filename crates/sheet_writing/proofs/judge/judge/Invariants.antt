@@ -1,5 +1,4 @@
 -- `sheet_writing::judge::judge` meets its contract. Assumes nothing.
-use Prim.Native.Nat.{◌-◌}
 use Rattle.sheet_writing.specs.Writing.{shadowed}
 use Rattle.sheet_writing.proofs.Steps.{Going}
 use Rattle.sheet_writing.proofs.judge.judge.Given as goal

@@ -1,5 +1,4 @@
 -- `sheet_writing::judge::no_kind` meets its contract. Assumes nothing.
-use Prim.Native.Nat.{◌-◌, ◌≤◌}
 use mathlib.Core.Path.{◌≡◌}
 use mathlib.Core.Bool.{true}
 use Rattle.sheet_writing.specs.Inner.{no_kind}

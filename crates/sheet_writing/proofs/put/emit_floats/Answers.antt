@@ -1,13 +1,13 @@
 -- `sheet_writing::put::emit_floats` meets its contract. Assumes nothing.
 use mathlib.Core.Path.{◌≡◌, refl, ap, ◌∙◌}
 use mathlib.Core.List.{map}
-use Prim.Native.Nat.{ℕ, ◌+◌, ◌≤◌}
+use Prim.Native.Nat.{ℕ, ◌+◌}
 use native.Mathlib.Omega.{arith}
 use lib.ListN.{length, take, length-map}
 use lib.Seq.{take-length}
 use Rattle.floats.specs.Answers.{bits_of}
 use Rattle.records.specs.Inner.{laid, emitted}
-use Rattle.records.proofs.Laid.{length-emitted, place-room}
+use Rattle.records.proofs.Laid.{place-room}
 use Rattle.sheet_writing.proofs.Putting.{turn_floats}
 use Rattle.sheet_writing.proofs.put.emit_floats.Goals as goal
 

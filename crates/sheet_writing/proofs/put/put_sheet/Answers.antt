@@ -1,5 +1,5 @@
 -- `sheet_writing::put::put_sheet` meets its contract. Assumes nothing.
-use mathlib.Core.Path.{◌≡◌, refl, sym, ◌∙◌}
+use mathlib.Core.Path.{◌≡◌, sym, ◌∙◌}
 use native.Mathlib.Omega.{arith}
 use Rattle.std.specs.Prelude.{Some}
 use Rattle.pooling.specs.Lists.{Source, source, whole_at}

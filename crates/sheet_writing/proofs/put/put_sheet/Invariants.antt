@@ -1,7 +1,6 @@
 -- `sheet_writing::put::put_sheet` meets its contract. Assumes nothing.
 use mathlib.Core.Path.{◌≡◌}
 use Prim.Native.Nat.{◌-◌}
-use lib.ListN.{length}
 use Rattle.pooling.specs.Lists.{Source}
 use Rattle.sheet_writing.specs.Inner.{put_from}
 use Rattle.sheet_writing.proofs.Walk.{Left}

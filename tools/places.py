@@ -43,8 +43,9 @@ def main():
     found["1 answers and parameters that are a number (u8)"] = [
         f"{f}: {n}" for f, n, ps, r in every if r == "u8" or any(re.match(r"(no|unset|turned|otherwise|told): u8", p) for p in ps)
     ]
-    lines("1 fields that are a refusal's number", r"(?m)^    (?:pub )?(?:no|end|collected): u8,")
-    lines("1 fields that are a flag", r"(?m)^    (?:pub )?\w+: bool,$")
+    structs = {f: "\n".join(m[0] for m in re.finditer(r"(?m)^(?:pub )?struct \w+[^;{]*\{\n(?:.*\n)*?\}", t)) for f, t in texts.items()}
+    for point, regex in (("1 fields that are a refusal's number", r"(?m)^    (?:pub )?no: u8,"), ("1 fields that are a flag", r"(?m)^    (?:pub )?\w+: bool,$")):
+        found[point] = [f"{f}: {m[0].strip()}" for f, t in structs.items() for m in re.finditer(regex, t)]
     found["1 a flag with a value beside it: present and filter"] = [f"{f}: {n}" for f, n, ps, r in every if has(ps, "present: bool", "filter:")]
     named = collections.defaultdict(set)
     for f, n, ps, r in every:

@@ -64,7 +64,13 @@ pub fn barred(
 }
 
 // What refuses it then, by what a survey of the slots found, none where a series disagrees, in output of so many places: 8, 10.
-pub fn number_of(found: Option<Sums>, sets: usize, words: usize, pos: usize, neg: usize) -> Result<(), Refusal>
+pub fn number_of(
+    found: Option<Sums>,
+    sets: usize,
+    words: usize,
+    pos: usize,
+    neg: usize,
+) -> Result<(), Refusal>
     ensures { code result ≡ surveyed_by (survey_of found) sets words pos neg }
 {
     let Some(s) = found else {

@@ -32,7 +32,7 @@ loop-i-preserved c =
     let next : Cursor → Cursor = λ at. next_at at (listed) in
     let l = c.loop-i in
     lines-turn (printed) (next) c.args.many l.done.at _ l._i c.point-done.result.at (omega arith) c.point-done.ensures.text_value c.point-done.ensures.at_value
-          ∙ l.invariant
+    ∙ l.invariant
 
 pub returns : goal.returns
 unfolding collection_lines

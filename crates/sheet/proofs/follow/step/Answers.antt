@@ -3,6 +3,7 @@ use mathlib.Core.Path.{sym, ◌∙◌}
 use Rattle.directory.specs.View.{Stores, stores}
 use Rattle.exponential_slots.specs.Cells.{Cells, cells}
 use Rattle.pooling.specs.Lists.{Source, source}
+use Rattle.sheet.specs.Followed.{done, taken_by}
 use Rattle.sheet.proofs.Following.{step-inside, step-begins, step-calls}
 use Rattle.sheet.proofs.follow.step.Goals as goal
 
@@ -13,7 +14,7 @@ returns-then-st-gt0 c =
     let outs : Source = let a = c.args in source a.out_sets.now a.out_words.now a.out_pos.now a.out_neg.now a.bounds.now in
     let a = c.args in
     step-inside a.st a.line.now a.over a.n a.text.now (dirs) (lent) (outs) a.sheet.now c.if-st-gt0.true
-    c.follow.result _ _ _ (c.follow.ensures.bounds_value, c.follow.ensures.sheet_after)
+    (done a.st.gauge a.n c.follow.result) _ _ _ (c.follow.ensures.bounds_value, c.follow.ensures.sheet_after)
 
 pub returns-in-Some : goal.returns-in-Some
 returns-in-Some c =
@@ -22,7 +23,7 @@ returns-in-Some c =
     let outs : Source = let a = c.args in source a.out_sets.now a.out_words.now a.out_pos.now a.out_neg.now a.bounds.now in
     let a = c.args in
     step-begins a.st a.line.now a.over a.n a.text.now (dirs) (lent) (outs) a.sheet.now c.if-st-gt0.false
-    c.in-Some.records (sym c.records_in.ensures ∙ c.in-Some.is) c.begin.result _ _ c.begin.ensures
+    c.in-Some.records (sym c.records_in.ensures ∙ c.in-Some.is) (taken_by c.begin.result) _ _ c.begin.ensures
 
 pub returns-in-None : goal.returns-in-None
 returns-in-None c =

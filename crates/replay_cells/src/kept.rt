@@ -94,10 +94,8 @@ fn cursor_of(place: u64, words: &[[u64; 12]], pos: &[u64], neg: &[u64]) -> Curso
 fn move_counts(counts: &mut stores::ListedCounts, from: usize, to: usize, k: u64) {
     let a = within(from as u64, 10560);
     let b = begin(k);
-    for i in 0..160 {
-        if a + i < to {
-            counts[b + i] = counts[a + i];
-        }
+    for i in 0..to.saturating_sub(a).min(160) {
+        counts[b + i] = counts[a + i];
     }
 }
 

@@ -16,11 +16,6 @@ fn name(out: &Stdout, text: &mut Block, n: usize, line: &Line, len: usize) -> us
     output::byte(out, text, a, b'\n')
 }
 
-// Whether a line of a letter has many values: it says how many were taken, refused or not.
-fn is_batch(letter: u8) -> bool {
-    letter == b'R' || letter == b'H'
-}
-
 // The lowest place that holds the birth number that a binding told.
 fn first_of(s: State) -> u64 {
     let found = s.handles[..99].iter().position(|held| *held == s.told);
@@ -47,7 +42,7 @@ fn listed<'a>(
     )
 }
 
-// Prints what the line of a number came to; the map's own line is another's.
+// Prints what the line of a number came to; the map's own line is another's. One with many values says how many were taken, refused or not.
 pub fn answer<'a>(
     out: &Stdout,
     text: &mut Block,
@@ -62,23 +57,25 @@ pub fn answer<'a>(
     pos: &'a stores::ListedCounts,
     neg: &'a stores::ListedCounts,
 ) -> usize {
-    let no = match s.no {
-        Ok(_) => 0,
-        Err(Fault::Refused(e)) => e.number(),
-        Err(Fault::Unread) => return printing::unread(out, text, n, number),
-    };
     let letter = s.letter;
-    if is_batch(letter) {
-        return pair(out, text, n, b'a', s.told, no as u64);
-    }
-    if no != 0 {
-        return pair(out, text, n, b'!', number, no as u64);
-    }
-    match letter {
-        b'=' => name(out, text, n, line, len),
-        b'b' => pair(out, text, n, letter, s.f[1], first_of(s)),
-        b'c' => listed(out, text, n, s, bounds, sets, words, pos, neg),
-        b'j' => replay_cells::kept::printed(out, text, n, s.f[1], bounds, sets, words, pos, neg),
-        _ => n,
+    match s.no {
+        Err(Fault::Unread) => printing::unread(out, text, n, number),
+        Err(Fault::Refused(no)) => {
+            let no = no.number() as u64;
+            match letter {
+                b'R' | b'H' => pair(out, text, n, b'a', s.told, no),
+                _ => pair(out, text, n, b'!', number, no),
+            }
+        }
+        Ok(_) => match letter {
+            b'=' => name(out, text, n, line, len),
+            b'R' | b'H' => pair(out, text, n, b'a', s.told, 0),
+            b'b' => pair(out, text, n, letter, s.f[1], first_of(s)),
+            b'c' => listed(out, text, n, s, bounds, sets, words, pos, neg),
+            b'j' => {
+                replay_cells::kept::printed(out, text, n, s.f[1], bounds, sets, words, pos, neg)
+            }
+            _ => n,
+        },
     }
 }

@@ -1,5 +1,5 @@
 -- `whole_printing::collection` meets its contract: what waits in the end is what the points left give from here. Assumes nothing.
-use Prim.Native.Nat.{◌-◌, ◌≤◌}
+use Prim.Native.Nat.{◌-◌}
 use mathlib.Core.Path.{◌≡◌}
 use Rattle.listing.specs.Listed.{Output}
 use Rattle.lines.specs.Gathered.{◌behind◌}

@@ -1,7 +1,7 @@
 -- `sheets::set_rows::ascends` meets its contract. Assumes nothing.
 use Prim.Native.Nat.{Ordering}
 use mathlib.Core.Path.{◌≡◌, refl, ap, ◌∙◌}
-use Rattle.core.specs.Ordering.{is_lt}
+use Rattle.std.specs.Ordering.{is_lt}
 use Rattle.tally.specs.Sets.{cmp}
 use Rattle.sets.specs.Inner.{way}
 use Rattle.sets.specs.Rows.{set_of, below}

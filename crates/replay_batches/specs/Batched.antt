@@ -14,10 +14,11 @@ use Rattle.replay_state.specs.declared.State.{State}
 use Rattle.replay_state.specs.After.{field, answered, Outcome, accepted, refused}
 use Rattle.replay_state.specs.Bound.{filter_in}
 
--- it tells how many values were taken, with the number that refused the next one and the directory that is left
+-- what a line comes to, by the number of its call
 abbrev pub outcome_of : ℕ → Outcome
 outcome_of n = pick (eqb n 0) accepted (refused n)
 
+-- it tells how many values were taken, with the number that refused the next one and the directory that is left
 abbrev pub batched_in : ℕ → ℕ → Directory → State → State
 batched_in taken n dir s = answered s (outcome_of n) taken dir s.handles s.start s.listed s.collected
 

@@ -38,7 +38,7 @@ use Rattle.gauge_lines.specs.declared.fields.Board.{Board}
 use Rattle.gauge_lines.specs.declared.fields.Call.{Call}
 use Rattle.gauge_lines.specs.declared.fields.Call.TheVariants as C
 use Rattle.gauge_lines.specs.Lines.{settings_of, board_of, attributes_in, time_of, call_of}
-use Rattle.gauge_lines.specs.Followed.{Outcome, outcome, After, after, refused_of, taken_with, begun_by, configured_by, started_by, after_start}
+use Rattle.gauge_lines.specs.Followed.{Outcome, outcome, After, after, taken_with, begun_by, configured_by, started_by, after_start}
 use Rattle.gauge_lines.specs.Followed.{answered_by, measured_by, recorded_by, after_record}
 use Rattle.gauge_lines.specs.Followed.{Followed, Collected, collected, told, turned_by, no_bounds, listed_by, collected_by, after_collect}
 use Rattle.gauge_lines.specs.Followed.{silent_by, by_call, after_call, numbered}

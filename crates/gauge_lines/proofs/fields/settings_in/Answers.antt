@@ -9,9 +9,9 @@ use lib.IntN.{ℤ}
 use mir.Syntax.{w32}
 use mir.Val.{SFits}
 use mir.ValLaws.{to_z-of_z}
-use Rattle.std.specs.Prelude.{Option, Some, ℕ}
+use Rattle.std.specs.Prelude.{Option, Some}
 use Rattle.gauge_lines.specs.declared.fields.Wanted.{Wanted}
-use Rattle.gauge_lines.specs.Lines.{size_in, scale_in, wanted_of, settings_of}
+use Rattle.gauge_lines.specs.Lines.{size_in, scale_in}
 use Rattle.gauge_lines.proofs.Asking.{settings-none, settings-are}
 use Rattle.gauge_lines.proofs.fields.settings_in.Goals as goal
 

@@ -1,31 +1,9 @@
 // A point as twelve words.
-ghost use Rattle.std.specs.Prelude.{◌≡◌, ◌≤◌};
-ghost use Rattle.laws.specs.Counting.{bit};
-ghost use Rattle.floats.specs.Answers.{is_shown};
+ghost use Rattle.std.specs.Prelude.{◌≡◌};
 ghost use Rattle.listing.specs.Words.{shown_bits, words_of};
 
 use crate::Span;
 use point::{Figures, Point};
-
-// 1 where it holds, else 0.
-fn flag_of(b: bool) -> u64
-    ensures { (result ≡ bit b) × (result ≤ 1) }
-{
-    if b {
-        return 1;
-    }
-    0
-}
-
-// Whether an extreme is shown.
-fn is_shown(x: Option<f64>) -> bool
-    ensures { result ≡ is_shown x }
-{
-    match x {
-        None => false,
-        Some(v) => true,
-    }
-}
 
 // The bits of an extreme, 0 where it is not shown.
 fn shown_bits(x: Option<f64>) -> u64
@@ -44,7 +22,7 @@ pub fn words_of(p: Point, b: Span) -> [u64; 12]
     let f = p.figures;
     let min = p.min;
     let max = p.max;
-    let flags = flag_of(p.extremes) + 2 * flag_of(is_shown(min));
+    let flags = u64::from(p.extremes) + 2 * u64::from(min.is_some());
     let low = shown_bits(min);
     let high = shown_bits(max);
     let sum = floats::bits_of(p.sum);

@@ -2,7 +2,7 @@
 use Prim.Native.Nat.{ℕ, zero, suc, min, ◌+◌, ◌-◌, ◌≤◌, ◌<◌}
 use mathlib.Core.Path.{◌≡◌, refl, sym, ap, ◌∙◌}
 use mathlib.Core.Logic.{⊎_elim}
-use mathlib.Core.Bool.{Bool, true, false, not}
+use mathlib.Core.Bool.{true, false}
 use mathlib.Core.List.{List, ◌++◌}
 use native.Mathlib.Omega.{arith}
 use native.Mathlib.Nat.{add-zero}
@@ -17,10 +17,6 @@ use Rattle.laws.specs.Pick.{pick}
 use Rattle.laws.proofs.Bools.{flag, not-both, pick_true, pick-false}
 use Rattle.lines.specs.declared.input.Ports.{Ports}
 use Rattle.lines.specs.Reading.{newline_in, first_newline, newline_of, copied, end_of, at_of, stop_of, count_of, taken, taken_line, fresh, NextLine}
-
-pub not-true : (b : Bool) → not b ≡ true → b ≡ false
-not-true true h = sym h
-not-true false h = refl
 
 pub in-none : (bs : List ℕ) (from : ℕ) → false ≡ newline_in bs from 0
 unfolding newline_in

@@ -1,6 +1,5 @@
 // Lines from blocks of the input.
-ghost use Rattle.std.specs.Prelude.{◌≡◌, true, false, ◌⊎◌, min, ◌+◌, ◌≤◌, eqb, take};
-ghost use Rattle.laws.specs.Pick.{pick};
+ghost use Rattle.std.specs.Prelude.{◌≡◌, true, false, ◌⊎◌, ◌+◌, ◌≤◌, take};
 ghost use Rattle.lines.specs.Reading.{Within, newline_in, newline_of, copied, taken, taken_line, NextLine};
 
 use crate::{Block, Line};
@@ -32,23 +31,6 @@ pub fn first() -> Ports
     }
 }
 
-// The lesser of two numbers.
-fn lesser(a: usize, b: usize) -> usize
-    ensures { result ≡ min a b }
-{
-    if a < b { a } else { b }
-}
-
-// Whether there is a newline, given whether there was one before, and the next byte.
-fn or_newline(found: bool, byte: u8) -> bool
-    ensures { result ≡ pick (eqb byte 10) true found }
-{
-    if byte == b'\n' {
-        return true;
-    }
-    found
-}
-
 // Whether one of eight bytes of the block is a newline. The loop goes on behind a newline, so that the compiler can test all eight at once.
 fn in_eight(block: &Block, from: usize) -> bool
     requires { from + 8 ≤ 65536 }
@@ -56,7 +38,7 @@ fn in_eight(block: &Block, from: usize) -> bool
 {
     let mut found = false;
     for byte in &block[from..from + 8] {
-        found = or_newline(found, *byte);
+        found |= *byte == b'\n';
     }
     found
 }
@@ -99,11 +81,11 @@ fn take(p: Ports, block: &Block, line: &mut Line) -> Ports
     ensures { (Within result.at result.end result.len) × (result.waiting ≡ p.waiting)
         × (result ≡ taken p block.now) × (line.new ≡ taken_line p block.now line.old) }
 {
-    let end = lesser(p.end, 65536);
-    let at = lesser(p.at, end);
-    let len = lesser(p.len, 256);
+    let end = p.end.min(65536);
+    let at = p.at.min(end);
+    let len = p.len.min(256);
     let stop = newline(block, at, end);
-    let n = lesser(stop - at, 256 - len);
+    let n = (stop - at).min(256 - len);
     copy(block, at, line, len, n);
     if stop < end {
         return Ports {
@@ -192,10 +174,11 @@ pub fn next(
         waiting: p.waiting,
     };
     let mut now = take(fresh, block, line);
-    let mut turns = u64::MAX;
-    while turns > 0 && !now.ended {
+    for _ in 0..u64::MAX {
+        if now.ended {
+            break;
+        }
         now = go_on(input, out, now, block, line, text);
-        turns -= 1;
     }
     now
 }

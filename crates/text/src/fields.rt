@@ -26,7 +26,7 @@ fn is_space(byte: u8) -> usize
     ensures value { result ≡ space byte }
     ensures upper_bound { result ≤ 1 }
 {
-    if byte == b' ' { 1 } else { 0 }
+    usize::from(byte == b' ')
 }
 
 // How many spaces a line has.

@@ -71,19 +71,6 @@ fn is_letter(byte: u8) -> bool
     std::num::wrapping_sub_u8(byte, 65) < 6
 }
 
-// Whether all are digits, given whether those before are, and what the next is.
-fn still(all: bool, decimal: bool, letter: bool) -> bool
-    ensures { result ≡ pick decimal all (pick letter all false) }
-{
-    if decimal {
-        return all;
-    }
-    if letter {
-        return all;
-    }
-    false
-}
-
 // Whether 16 bytes are hexadecimal digits. Both tests are made of each byte and none ends the loop, so that the compiler can make them of all
 // bytes at once.
 fn are_hex(bytes: &[u8]) -> bool
@@ -92,7 +79,7 @@ fn are_hex(bytes: &[u8]) -> bool
 {
     let mut all = true;
     for byte in &bytes[..16] {
-        all = still(all, is_decimal(*byte), is_letter(*byte));
+        all &= is_decimal(*byte) | is_letter(*byte);
     }
     all
 }

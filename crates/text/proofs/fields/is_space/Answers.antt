@@ -1,12 +1,18 @@
 -- `text::fields::is_space` meets its contract. Assumes nothing.
-use Rattle.std.proofs.Common.{refl, arith, eq-eqb, ne_eqb}
+use Rattle.std.proofs.Common.{◌≡◌, ◌≤◌, ◌==◌, Bool, true, false, refl, ◌∙◌, arith}
+use mir.Val.{bool_byte}
+use Rattle.laws.specs.Counting.{bit}
 use Rattle.text.specs.Fields.{space}
 use Rattle.text.proofs.fields.is_space.Goals as goal
 
-pub returns-then-byte-eq32 : goal.returns-then-byte-eq32
-unfolding space
-returns-then-byte-eq32 c = record { value = simp (eq-eqb c.args.byte 32 c.if-byte-eq32.true) refl; upper_bound = omega arith }
+byte-bit : (b : Bool) → bool_byte b ≡ bit b
+byte-bit true = refl
+byte-bit false = refl
 
-pub returns-else-byte-eq32 : goal.returns-else-byte-eq32
+at-most : (b : Bool) → bool_byte b ≤ 1
+at-most true = omega arith
+at-most false = omega arith
+
+pub returns : goal.returns
 unfolding space
-returns-else-byte-eq32 c = record { value = simp (ne_eqb c.args.byte 32 c.if-byte-eq32.false) refl; upper_bound = omega arith }
+returns c = record { value = c.from.ensures ∙ byte-bit _; upper_bound = omega (arith, c.from.ensures, at-most (c.args.byte == 32)) }

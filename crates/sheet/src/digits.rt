@@ -27,11 +27,9 @@ fn digits_of(out: &Stdout, text: &mut Block, n: usize, bytes: &[u8]) -> usize
     ensures { waiting result text.new ≡ hex_of bytes.now behind waiting n text.old }
 {
     let mut m = n;
-    let mut i: usize = 0;
-    while i < bytes.len() {
-        let a = output::byte(out, text, m, glyph(bytes[i] / 16));
-        m = output::byte(out, text, a, glyph(bytes[i] % 16));
-        i += 1;
+    for byte in bytes {
+        let a = output::byte(out, text, m, glyph(byte / 16));
+        m = output::byte(out, text, a, glyph(byte % 16));
     }
     m
 }
@@ -50,12 +48,10 @@ pub fn record_lines(out: &Stdout, text: &mut Block, n: usize, bytes: &[u8]) -> u
 {
     let many = bytes.len() / 32;
     let mut m = n;
-    let mut k: usize = 0;
-    while k < many {
+    for k in 0..many {
         let a = k * 32;
         let e = a + 32;
         m = record_line(out, text, m, &bytes[a..e]);
-        k += 1;
     }
     m
 }
@@ -84,12 +80,10 @@ fn digit(byte: u8) -> u8
 fn are_digits(bytes: &[u8]) -> bool
     ensures { result ≡ all_of is_digit bytes.now }
 {
-    let mut i: usize = 0;
-    while i < bytes.len() {
-        if digit(bytes[i]) > 15 {
+    for byte in bytes {
+        if digit(*byte) > 15 {
             return false;
         }
-        i += 1;
     }
     true
 }
@@ -112,23 +106,15 @@ fn byte_of(a: u8, b: u8) -> u8
     digit(a) * 16 + digit(b)
 }
 
-fn lesser(a: usize, b: usize) -> usize
-    ensures { result ≡ min a b }
-{
-    if a < b { a } else { b }
-}
-
 // Puts a record behind the bytes of a sheet that are there; how many there are then. No sheet has more than its store has room for.
 pub fn put(sheet: &mut Bytes, at: usize, line: &[u8]) -> usize
     requires { is_record line.now ≡ true }
     ensures value { result ≡ min at 233472 + 32 }
     ensures sheet_after { sheet.new ≡ sets sheet.old (min at 233472) (bytes_in line.now) }
 {
-    let from = lesser(at, 233472);
-    let mut i: usize = 0;
-    while i < 32 {
+    let from = at.min(233472);
+    for i in 0..32 {
         sheet[from + i] = byte_of(line[2 * i], line[2 * i + 1]);
-        i += 1;
     }
     from + 32
 }

@@ -7,12 +7,9 @@ use Rattle.sheet.specs.Digits.{bytes_in}
 use Rattle.sheet.proofs.Hex.{record-length, record_digit, put-start, put-turn, put-end}
 use Rattle.sheet.proofs.digits.put.Goals as goal
 
-pub lesser-from-requires : goal.lesser-from-requires
-lesser-from-requires c = tt
-
 pub loop-i-init : goal.loop-i-init
 loop-i-init c =
-    (omega arith, record-length c.args.line.now c.requires, omega (arith, c.lesser-from.ensures), put-start c.args.line.now 0 c.lesser-from.result c.args.sheet.now)
+    (record-length c.args.line.now c.requires, omega (arith, c.min-from.ensures), put-start c.args.line.now 0 c.min-from.result c.args.sheet.now)
 
 pub byte_of-requires : goal.byte_of-requires
 byte_of-requires c =
@@ -22,14 +19,14 @@ byte_of-requires c =
 pub loop-i-preserved : goal.loop-i-preserved
 loop-i-preserved c =
     let l = c.loop-i in
-    (omega arith, l.invariant.1, l.invariant.2, put-turn c.args.line.now l.i c.lesser-from.result l.sheet c.byte_of.result (omega arith) c.byte_of.ensures ∙ l.invariant.3)
+    (l.invariant.0, l.invariant.1, put-turn c.args.line.now l.i c.min-from.result l.sheet c.byte_of.result (omega arith) c.byte_of.ensures ∙ l.invariant.2)
 
 pub returns : goal.returns
 returns c =
     let l = c.loop-i in
     let a = c.args in
     let bs = a.line.now in record {
-      value = omega (arith, c.lesser-from.ensures);
-      sheet_after = sym (put-end bs l.i c.lesser-from.result l.sheet (omega arith)) ∙ l.invariant.3
-          ∙ ap (λ k. sets a.sheet.now k (bytes_in bs)) c.lesser-from.ensures;
+      value = omega (arith, c.min-from.ensures);
+      sheet_after = sym (put-end bs l.i c.min-from.result l.sheet (omega arith)) ∙ l.invariant.2
+          ∙ ap (λ k. sets a.sheet.now k (bytes_in bs)) c.min-from.ensures;
     }

@@ -42,11 +42,11 @@ index signed get_index"""
 # the files in which theorems are stated
 THEOREMS = [("promises", "specs.Promises"), ("promises", "specs.Points"), ("promises", "specs.Sheets"), ("marks", "specs.Marks")]
 # what the theorems of `promises` and the contracts share: proved on both sides, so who reads the theorems may pass over what they are made of
-LINKS = "measured measuredBy measuredAll measuredAllBy bound released deltaCollected cumulativeCollected started configured merging meanIn pointAt recording writing reading".split()
+LINKS = "measured measured_by measured_all measured_all_by bound released delta_collected cumulative_collected started configured merging mean_in point_at recording writing reading".split()
 KINDS = ["calls", "theorems", "inner", "proofs", "unused"]
 TOKEN = re.compile(r"[^\s(){}\[\],;λ⌜⌝\"]+")
 HEAD = re.compile(r" *(?:(?:abbrev|unfoldable) )?(?:pub )?(?:(record|data) )?(\S+)(?: \{.*\})?(?: \(.*\))* :(?: |$)")
-USE = re.compile(r"\s*(?:ghost )?(?:(?:unfoldable |abbrev )?pub )?use Rattle·([a-z_]+)(?:·\w+)?\.([\w.-]+?)(?:\.\{(.*)\}| as (\S+?));?$")
+USE = re.compile(r"\s*(?:ghost )?(?:(?:unfoldable |abbrev )?pub )?use Rattle\.([a-z_]+)\.([\w.-]+?)(?:\.\{(.*)\}| as (\S+?));?$")
 
 
 def code(lines):

@@ -9,6 +9,8 @@ use lib.ListN.{take, replicate}
 use lib.Ieee.{Float, binary64, of_bits}
 use Rattle.laws.specs.Pick.{pick}
 use Rattle.std.specs.Prelude.{Option, Some, None, Result, Ok, Err}
+use Rattle.std.specs.Result.{result_ok}
+use Rattle.std.proofs.lemmas.Option.{none-some, same_Some}
 use Rattle.lines.specs.Gathered.{Text, ◌behind◌}
 use Rattle.sets.specs.Sorted.{given}
 use Rattle.directory.specs.View.{Stores}
@@ -45,10 +47,10 @@ use Rattle.gauge_lines.specs.Followed.{silent_by, by_call, after_call, numbered}
 
 -- ---- `e` and `r`
 
--- a handle or none: the call was made
-pub taken-said : (g : Gauge) (d : Directory) (x : Option ℕ) → taken_with g d ≡ answered_by g (Bindings.said (Ok x)) d
-taken-said g d None = refl
-taken-said g d (Some h) = refl
+-- an answer of which `ok` leaves a value
+pub answer-of : {A : Type 0} (a : Result A Refusal) (x : A) → result_ok a ≡ Some x → a ≡ Ok x
+answer-of (Ok y) x h = ap Ok (same_Some y x h)
+answer-of (Err e) x h = absurd (none-some x h)
 
 module _ (g : Gauge) (bs : List ℕ) (s : Stores) (c : Cells) (r : Option Gauge) where
   pub start-refused : settings_of bs ≡ None → r ≡ None → after (outcome g r) s c ≡ after_start g bs s c
@@ -111,16 +113,21 @@ module _ (form : Form) (g : Gauge) (bs : List ℕ) (n : ℕ) (block : List ℕ) 
         ap (λ (z : Result ℕ Refusal). listed_by form g time (text n block) (Collecting.gave z (held d s' c) o')) (sym y)
         ∙ ap (listed_by form g time (text n block)) q ∙ sym (ap asked e)
 
-    pub collect-none : (x : Refusal) → a ≡ Err x → left (collected g n None) block s' c o' ≡ after_collect form g bs (text n block) s c o
-    collect-none x y = by-answer (Err x) y
+    by-refusal : (x : Result ℕ Refusal) → a ≡ x → result_ok x ≡ None → left (collected g n None) block s' c o' ≡ after_collect form g bs (text n block) s c o
+    by-refusal (Ok x) y h = absurd (none-some x (sym h))
+    by-refusal (Err x) y h = by-answer (Err x) y
 
-    pub collect-made : (many : ℕ) → a ≡ Ok many → (k : Turn)
+    pub collect-none : result_ok a ≡ None → (r : Option Next) → r ≡ None
+        → left (collected g n r) block s' c o' ≡ after_collect form g bs (text n block) s c o
+    collect-none h r p = ap (λ (x : Option Next). left (collected g n x) block s' c o') p ∙ by-refusal a refl h
+
+    pub collect-made : (many : ℕ) → result_ok a ≡ Some many → (k : Turn)
         → k ≡ record { gauge = turned_by g d time; start = (turned g.clock 0 time).start } → (m : ℕ) (block' : List ℕ)
         → text m block' ≡ collection_lines form k.start time many o' no_bounds behind text n block
         → left (record { taken = true; gauge = k.gauge; text = m }) block' s' c o' ≡ after_collect form g bs (text n block) s c o
     collect-made many y k p m block' w =
         ap (λ (x : Text). shown k x) w ∙ ap (λ (x : Turn). shown x (collection_lines form x.start time many o' no_bounds behind text n block)) p
-        ∙ by-answer (Ok many) y
+        ∙ by-answer (Ok many) (answer-of a many y)
       where
         shown : Turn → Text → Followed
         shown x u = record { taken = true; gauge = x.gauge; text = u; stores = s'; cells = c; out = o' }

@@ -17,15 +17,13 @@ use refusals::Refusal;
 fn begun(g: Gauge, c: Result<Setup, Refusal>, start: u64) -> Option<Gauge>
     ensures { outcome g result ≡ begun_by g start (said c) }
 {
-    match c {
-        Err(_) => None,
-        Ok(setup) => Some(Gauge {
-            running: true,
-            settings: setup.settings,
-            dir: setup.dir,
-            clock: Clock { start },
-        }),
-    }
+    let setup = c.ok()?;
+    Some(Gauge {
+        running: true,
+        settings: setup.settings,
+        dir: setup.dir,
+        clock: Clock { start },
+    })
 }
 
 // Configures a map by a line `e`: the gauge with it. A line that is refused leaves the map that is running.
@@ -74,10 +72,8 @@ fn given<'a>(attrs: &'a Attributes, n: usize) -> &'a [[u32; 2]]
 fn answered(g: Gauge, reply: Reply) -> Option<Gauge>
     ensures { outcome g result ≡ answered_by g (bindings-calls.said reply.answer) reply.dir }
 {
-    match reply.answer {
-        Ok(_) => Some(with(g, reply.dir)),
-        Err(_) => None,
-    }
+    reply.answer.ok()?;
+    Some(with(g, reply.dir))
 }
 
 // Records by a line `r`: the gauge after it, or none where it was refused.

@@ -74,19 +74,14 @@ pub fn collect(
         g.settings, g.dir, sets, entries, order, figures, extremes, pos, neg, out_sets, out_words,
         out_pos, out_neg,
     );
-    match reply.answer {
-        Err(_) => None,
-        Ok(many) => {
-            let t = turned(g, reply.dir, time);
-            let no_bounds = [0.0f64; 1];
-            let end = printing::collection(
-                out, text, n, form, t.start, time, many, out_sets, out_words, out_pos, out_neg,
-                &no_bounds,
-            );
-            Some(Next {
-                gauge: t.gauge,
-                text: end,
-            })
-        }
-    }
+    let many = reply.answer.ok()?;
+    let t = turned(g, reply.dir, time);
+    let no_bounds = [0.0f64; 1];
+    let end = printing::collection(
+        out, text, n, form, t.start, time, many, out_sets, out_words, out_pos, out_neg, &no_bounds,
+    );
+    Some(Next {
+        gauge: t.gauge,
+        text: end,
+    })
 }

@@ -7,6 +7,8 @@ use borrow.Author.Tests.{lt-ltb, le-ltb}
 use Rattle.laws.specs.Pick.{pick}
 use Rattle.laws.proofs.Bools.{pick_true, pick-false}
 use Rattle.std.specs.Prelude.{Option, Some, None, Result, Ok, Err}
+use Rattle.std.specs.Result.{result_ok}
+use Rattle.std.proofs.lemmas.Option.{none-some}
 use Rattle.refusals.specs.declared.Refusal.{Refusal}
 use Rattle.lines.specs.Gathered.{Text, ◌behind◌}
 use Rattle.directory.specs.View.{Stores}
@@ -24,6 +26,7 @@ use Rattle.gauge_lines.specs.Followed.{outcome, After, after, turned_by, after_s
 use Rattle.gauge_lines.specs.declared.cells.Gauge.{Gauge}
 use Rattle.gauge_lines.specs.declared.fields.Call.{Call}
 use Rattle.gauge_lines.specs.declared.fields.Call.TheVariants as C
+use Rattle.gauge_lines.proofs.Following.{answer-of}
 use Rattle.sheet_writing.specs.Writing.{writing}
 use Rattle.sheet.specs.Shown.{Wrote, wrote, wrote_by, records_of}
 use Rattle.sheet.specs.Followed.{outside_of, Done, done, taken_by, told, Went, went_on, opened, record_put, in_sheet, Followed, header_of, collected_with, listed_by}
@@ -61,17 +64,22 @@ module _ (g : Gauge) (bs : List ℕ) (n : ℕ) (block : List ℕ) (s : Stores) (
         ap (λ (z : Result ℕ Refusal). listed_by g time (text n block) x.bounds b (Collecting.gave z (held d s' c) o')) (sym p)
         ∙ ap (listed_by g time (text n block) x.bounds b) q ∙ sym (ap asked e)
 
-    pub collect-none : (k : Refusal) → a ≡ Err k → left (done g n None) block s' c listed b ≡ after_collect g bs (text n block) s c x b
-    collect-none k y = by-answer (Err k) y
+    by-refusal : (y : Result ℕ Refusal) → a ≡ y → result_ok y ≡ None → left (done g n None) block s' c listed b ≡ after_collect g bs (text n block) s c x b
+    by-refusal (Ok y) p h = absurd (none-some y (sym h))
+    by-refusal (Err y) p h = by-answer (Err y) p
 
-    pub collect-made : (many : ℕ) → a ≡ Ok many → (k : Turn) → k ≡ record { gauge = turned_by g d time; header = header_of g time }
+    pub collect-none : result_ok a ≡ None → (r : Option Next) → r ≡ None
+        → left (done g n r) block s' c listed b ≡ after_collect g bs (text n block) s c x b
+    collect-none h r p = ap (λ (y : Option Next). left (done g n y) block s' c listed b) p ∙ by-refusal a refl h
+
+    pub collect-made : (many : ℕ) → result_ok a ≡ Some many → (k : Turn) → k ≡ record { gauge = turned_by g d time; header = header_of g time }
         → (m : ℕ) (block' b' : List ℕ) → wrote (text m block') b' ≡ wrote_by (writing k.header many listed b) (text n block) → (r : Next)
         → r ≡ record { state = outside_of k.gauge; text = m }
         → left (done g n (Some r)) block' s' c listed b' ≡ after_collect g bs (text n block) s c x b
     collect-made many y k f m block' b' w r p =
         ap (λ (z : Next). left (taken_by z) block' s' c listed b') p ∙ ap (λ (z : Wrote). collected_with k.gauge z s' c listed) w
         ∙ ap (λ (z : Turn). collected_with z.gauge (wrote_by (writing z.header many listed b) (text n block)) s' c listed) f
-        ∙ by-answer (Ok many) y
+        ∙ by-answer (Ok many) (answer-of a many y)
 
 -- ---- the gauge's lines
 

@@ -73,14 +73,10 @@ pub fn collect(
         g.settings, g.dir, sets, entries, order, figures, extremes, pos, neg, out_sets, out_words,
         out_pos, out_neg,
     );
-    match reply.answer {
-        Err(_) => None,
-        Ok(many) => {
-            let t = turned(g, reply.dir, time);
-            let end = crate::writing::write(
-                out, text, n, t.header, many, out_sets, out_words, out_pos, out_neg, bounds, sheet,
-            );
-            Some(crate::state::ended(t.gauge, end))
-        }
-    }
+    let many = reply.answer.ok()?;
+    let t = turned(g, reply.dir, time);
+    let end = crate::writing::write(
+        out, text, n, t.header, many, out_sets, out_words, out_pos, out_neg, bounds, sheet,
+    );
+    Some(crate::state::ended(t.gauge, end))
 }

@@ -14,21 +14,12 @@ fn entry_in(at: Cursor, w: [u64; 12], pos: usize, neg: usize) -> Option<Entry>
         return None;
     }
     let s = crate::decode::shadow_words(w);
-    let found = listing::read::entry_in(at, s, pos, neg);
-    match found {
-        None => None,
-        Some(e) => {
-            let shadow = e.point;
-            let p = crate::decode::point_of(shadow, w);
-            let b = e.bounds;
-            let next = e.next;
-            Some(Entry {
-                point: p,
-                bounds: b,
-                next,
-            })
-        }
-    }
+    let e = listing::read::entry_in(at, s, pos, neg)?;
+    Some(Entry {
+        point: crate::decode::point_of(e.point, w),
+        bounds: e.bounds,
+        next: e.next,
+    })
 }
 
 // The point at a cursor, with the cursor of the point behind it; none where the words are no i64 point's.

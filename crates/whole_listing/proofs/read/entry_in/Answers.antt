@@ -26,8 +26,8 @@ shadow_words-s-requires c =
     let own : own_words c.args.w ≡ true = sym c.own_words.ensures ∙ c.if-not-own_words.false in
     kind-own c.args.w (own)
 
-pub returns-in-None : goal.returns-in-None
-returns-in-None c =
+pub returns-in_err-e : goal.returns-in_err-e
+returns-in_err-e c =
     let wide : Wide c.args.w =
     let l : Fits w64 (get_or c.args.w 9 0) = search rules in
     let h : Fits w64 (get_or c.args.w 10 0) = search rules in
@@ -36,22 +36,22 @@ returns-in-None c =
     let own : own_words c.args.w ≡ true = sym c.own_words.ensures ∙ c.if-not-own_words.false in
     let by-shadow : numbered_found c.args.w None ≡ entry_in c.args.at c.args.w c.args.pos c.args.neg =
     let a = c.args in
-    ap (numbered_found a.w) (c.in-None.ensures ∙ ap (λ (x : List ℕ). L.entry_in a.at x a.pos a.neg) c.shadow_words-s.ensures)
+    ap (numbered_found a.w) (c.in_err-e.ensures ∙ ap (λ (x : List ℕ). L.entry_in a.at x a.pos a.neg) c.shadow_words-s.ensures)
     ∙ entry-by a.at a.w a.pos a.neg (wide) (own) in
-    by-shadow
+    c.from_residual.ensures ∙ by-shadow
 
-pub returns-in-Some : goal.returns-in-Some
-returns-in-Some c =
+pub returns : goal.returns
+returns c =
     let wide : Wide c.args.w =
     let l : Fits w64 (get_or c.args.w 9 0) = search rules in
     let h : Fits w64 (get_or c.args.w 10 0) = search rules in
     let t : Fits w64 (get_or c.args.w 11 0) = search rules in
     (l.fits, h.fits, t.fits) in
     let own : own_words c.args.w ≡ true = sym c.own_words.ensures ∙ c.if-not-own_words.false in
-    let by-shadow : numbered_found c.args.w (Some c.in-Some.e) ≡ entry_in c.args.at c.args.w c.args.pos c.args.neg =
+    let by-shadow : numbered_found c.args.w (Some c.in_ok-e.e) ≡ entry_in c.args.at c.args.w c.args.pos c.args.neg =
     let a = c.args in
-    ap (numbered_found a.w) (c.in-Some.ensures ∙ ap (λ (x : List ℕ). L.entry_in a.at x a.pos a.neg) c.shadow_words-s.ensures)
+    ap (numbered_found a.w) (c.in_ok-e.ensures ∙ ap (λ (x : List ℕ). L.entry_in a.at x a.pos a.neg) c.shadow_words-s.ensures)
     ∙ entry-by a.at a.w a.pos a.neg (wide) (own) in
     let a = c.args in
-    ap (λ (q : Point). Some (record { point = q; bounds = c.in-Some.e.bounds; next = c.in-Some.e.next })) c.point_of-p.ensures
+    ap (λ (q : Point). Some (record { point = q; bounds = c.in_ok-e.e.bounds; next = c.in_ok-e.e.next })) c.point_of.ensures
     ∙ by-shadow

@@ -56,8 +56,10 @@ pub fn record(
     let h = under_count(head.count);
     let x = integers::nearest(v);
     let Some(sum) = integers::kept_sum(sums, head.sum, v) else {
-        explicit::refusal(bounds, h, counts, x)?;
-        return Err(Refusal::SumOutside);
+        let before = explicit::refusal(bounds, h, counts, x);
+        let no = refusals::code(before);
+        let n = integers::last_number(no);
+        return Err(Refusal::numbered(n));
     };
     let g = explicit::record(bounds, h, counts, x)?;
     Ok(Head {

@@ -1,5 +1,5 @@
 -- The sum that a series of i64 values keeps: it takes a value, or would leave i64. Assumes nothing.
-use Prim.Native.Nat.{ℕ}
+use Prim.Native.Nat.{ℕ, ◌<◌, ◌≤◌}
 use mathlib.Core.Path.{◌≡◌, refl, sym, ap, subst, ◌∙◌}
 use mathlib.Core.Bool.{Bool, true, false}
 use native.Mathlib.Omega.{arith}
@@ -56,3 +56,17 @@ last_some n e = go (eqb n 0) refl
     go : (b : Bool) → eqb n 0 ≡ b → ⊥
     go true d = other (last_number n) (pick_true (eqb n 0) 16 n d) e
     go false d = eqb-false n 0 d (sym (pick-false (eqb n 0) 16 n d) ∙ e)
+
+-- 16 or what comes first is the number of a refusal, where the latter is
+pub last-within : (n k : ℕ) → n ≤ 16 → k ≡ last_number n → (0 < k) × (k ≤ 16)
+last-within n k h e = go (eqb n 0) refl
+  where
+    first : (m : ℕ) → k ≡ m → m ≡ 16 → (0 < k) × (k ≤ 16)
+    first m d f = (omega (arith, d, f), omega (arith, d, f))
+
+    other : (m : ℕ) → k ≡ m → m ≡ n → (n ≡ 0 → ⊥) → (0 < k) × (k ≤ 16)
+    other m d f z = (omega (arith, d, f, z), omega (arith, d, f, h))
+
+    go : (b : Bool) → eqb n 0 ≡ b → (0 < k) × (k ≤ 16)
+    go true d = first (last_number n) e (pick_true (eqb n 0) 16 n d)
+    go false d = other (last_number n) e (pick-false (eqb n 0) 16 n d) (eqb-false n 0 d)

@@ -57,10 +57,12 @@ fn pool(
     let x = crate::entries::shadow_entry(e);
     let y = crate::entries::shadow_entry(f);
     let Some(s) = integers::sum(p.sum, q.sum) else {
-        crate::entries::refusal_entries(
+        let before = crate::entries::refusal_entries(
             size, a, x, abounds, apos, aneg, b, y, bbounds, bpos, bneg,
-        )?;
-        return Err(Refusal::SumOutside);
+        );
+        let no = refusals::code(before);
+        let n = integers::last_number(no);
+        return Err(Refusal::numbered(n));
     };
     let min = numbers::smaller(p.min, q.min);
     let max = numbers::larger(p.max, q.max);

@@ -1,7 +1,8 @@
--- A refusal's number is never 0; an answer with the number 0 is no refusal, and any other number is a refusal's. Assumes nothing.
-use Rattle.std.specs.Prelude.{◌≡◌, ◌≢◌, ℕ, Result, Ok, Err}
+-- A refusal's number is 1 to 16, never 0; an answer with the number 0 is no refusal, and any other number is a refusal's. Assumes nothing.
+use Rattle.std.specs.Prelude.{◌≡◌, ◌≢◌, ◌≤◌, Result, Ok, Err}
 use Rattle.std.specs.Result.{IsErrAnd}
 use mathlib.Core.Path.{sym, ap, ◌∙◌}
+use native.Mathlib.Omega.{arith}
 use Rattle.std.proofs.Math.Nat.{suc-ne-zero}
 use Rattle.refusals.specs.declared.Refusal.{Refusal}
 use Rattle.refusals.specs.declared.Refusal.TheVariants as R
@@ -24,6 +25,28 @@ number-nonzero R.NoValues = suc-ne-zero 12
 number-nonzero R.OffGrid = suc-ne-zero 13
 number-nonzero R.NotASheet = suc-ne-zero 14
 number-nonzero R.SumOutside = suc-ne-zero 15
+
+pub number-most : (e : Refusal) → number e ≤ 16
+number-most R.MaxSize = omega arith
+number-most R.MaxScale = omega arith
+number-most R.Bounds = omega arith
+number-most R.Limit = omega arith
+number-most R.Attributes = omega arith
+number-most R.NotFinite = omega arith
+number-most R.NoHandle = omega arith
+number-most R.Disagrees = omega arith
+number-most R.Full = omega arith
+number-most R.NoRoom = omega arith
+number-most R.Unlike = omega arith
+number-most R.LentShort = omega arith
+number-most R.NoValues = omega arith
+number-most R.OffGrid = omega arith
+number-most R.NotASheet = omega arith
+number-most R.SumOutside = omega arith
+
+pub code-most : {A : Type 0} → (r : Result A Refusal) → code r ≤ 16
+code-most (Ok a) = omega arith
+code-most (Err e) = number-most e
 
 pub refused-nonzero : {A : Type 0} → (r : Result A Refusal) → (e : Refusal) → r ≡ Err e → code r ≢ 0
 refused-nonzero r e i z = number-nonzero e (sym (ap code i) ∙ z)

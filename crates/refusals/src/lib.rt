@@ -1,7 +1,7 @@
 // Refusals: the error of every call, with document 01's number and sentence for each.
 #![tactic(auto)]
 
-ghost use Rattle.std.specs.Prelude.{◌≡◌};
+ghost use Rattle.std.specs.Prelude.{◌≡◌, ◌<◌, ◌≤◌};
 ghost use Rattle.refusals.specs.Refusals.{number, code};
 
 use std::error::Error;
@@ -50,6 +50,31 @@ impl Refusal {
             Refusal::OffGrid => 14,
             Refusal::NotASheet => 15,
             Refusal::SumOutside => 16,
+        }
+    }
+
+    // The refusal that has a number.
+    pub fn numbered(no: u8) -> Refusal
+        requires { (0 < no) × (no ≤ 16) }
+        ensures { number result ≡ no }
+    {
+        match no {
+            1 => Refusal::MaxSize,
+            2 => Refusal::MaxScale,
+            3 => Refusal::Bounds,
+            4 => Refusal::Limit,
+            5 => Refusal::Attributes,
+            6 => Refusal::NotFinite,
+            7 => Refusal::NoHandle,
+            8 => Refusal::Disagrees,
+            9 => Refusal::Full,
+            10 => Refusal::NoRoom,
+            11 => Refusal::Unlike,
+            12 => Refusal::LentShort,
+            13 => Refusal::NoValues,
+            14 => Refusal::OffGrid,
+            15 => Refusal::NotASheet,
+            _ => Refusal::SumOutside,
         }
     }
 }

@@ -12,7 +12,7 @@ pub fn lesser(a: usize, b: usize) -> usize
 pub fn suffices(limit: u64, sets: usize, entries: usize, order: usize, cells: usize) -> bool
     ensures { result ≡ ((leb (limit + 2) sets && (leb (limit + 2) entries && leb (limit + 2) order)) && leb (limit + 2) cells) }
 {
-    let rest = order.min(cells);
-    let least = sets.min(entries).min(rest);
+    let rest = lesser(order, cells);
+    let least = lesser(lesser(sets, entries), rest);
     directory::suffices(limit, least)
 }

@@ -137,8 +137,10 @@ pub fn merge(
     let x = shadow_of(a);
     let y = shadow_of(b);
     let Some(s) = integers::sum(a.sum, b.sum) else {
-        point::refusal(size, x, abounds, apos, aneg, y, bbounds, bpos, bneg)?;
-        return Err(Refusal::SumOutside);
+        let before = point::refusal(size, x, abounds, apos, aneg, y, bbounds, bpos, bneg);
+        let no = refusals::code(before);
+        let n = integers::last_number(no);
+        return Err(Refusal::numbered(n));
     };
     let counted = point::merge(
         size, x, abounds, apos, aneg, y, bbounds, bpos, bneg, pos, neg,

@@ -4,40 +4,32 @@ use borrow.Author.Rules.{rules}
 use mir.Syntax.{w64}
 use mir.Val.{SFits}
 use Rattle.std.specs.Prelude.{Err}
-use Rattle.laws.specs.Pick.{pick}
 use Rattle.laws.specs.Said.{refusal, success}
 use Rattle.refusals.specs.Refusals.{number, said}
-use Rattle.refusals.proofs.Numbers.{number-nonzero}
-use Rattle.integers.specs.Answers.{nearest_of, kept_sum, lesser_of, greater_of}
+use Rattle.refusals.proofs.Numbers.{code-most}
+use Rattle.integers.specs.Answers.{nearest_of, kept_sum, lesser_of, greater_of, last_number}
 use Rattle.integers.proofs.Range.{held}
 use Rattle.explicit.specs.Series as E
 use Rattle.explicit_wholes.specs.Series.{outcome}
-use Rattle.explicit_wholes.proofs.Call.{first_law, outside_law, inside_law}
+use Rattle.points.proofs.WholeSums.{last-within}
+use Rattle.explicit_wholes.proofs.Call.{outside_law, inside_law}
 use Rattle.explicit_wholes.proofs.record.Goals as goal
 
-pub returns-in_err-refusal : goal.returns-in_err-refusal
-returns-in_err-refusal c =
-    let a = c.args in
-    let near : c.nearest-x.result ≡ nearest_of a.v = c.nearest-x.ensures ∙ ap nearest_of (held a.v c.ranges.v) in
-    let f : SFits w64 a.head.sum = search rules in
-    let told : c.kept_sum.result ≡ kept_sum a.sums a.head.sum a.v =
-    c.kept_sum.ensures ∙ (λ j. kept_sum a.sums (held a.head.sum f j) (held a.v c.ranges.v j)) in
-    let e = c.in_err-refusal.field-0.0 in
-    let k : c.from_residual.result ≡ Err e = search rules in
-    ap (λ r. outcome (said r) a.counts.now) k
-    ∙ first_law a.bounds.now a.sums a.head a.counts.now a.v (sym told ∙ c.in_default.is) (number e)
-    (c.in_err-refusal.ensures ∙ (λ j. E.refusal_of a.bounds.now (c.under_count-h.ensures j) a.counts.now (near j))) (number-nonzero e)
+pub numbered-requires : goal.numbered-requires
+numbered-requires c =
+    last-within _ _ (code-most c.refusal-before.result) (c.last_number-n.ensures ∙ ap last_number c.code-no.ensures)
 
 pub returns-in_default : goal.returns-in_default
-unfolding pick
 returns-in_default c =
     let a = c.args in
     let near : c.nearest-x.result ≡ nearest_of a.v = c.nearest-x.ensures ∙ ap nearest_of (held a.v c.ranges.v) in
     let f : SFits w64 a.head.sum = search rules in
     let told : c.kept_sum.result ≡ kept_sum a.sums a.head.sum a.v =
     c.kept_sum.ensures ∙ (λ j. kept_sum a.sums (held a.head.sum f j) (held a.v c.ranges.v j)) in
-    outside_law a.bounds.now a.sums a.head a.counts.now a.v (sym told ∙ c.in_default.is) 0 16
-    (c.in_ok-refusal.ensures ∙ (λ j. E.refusal_of a.bounds.now (c.under_count-h.ensures j) a.counts.now (near j))) refl
+    outside_law a.bounds.now a.sums a.head a.counts.now a.v (sym told ∙ c.in_default.is) c.code-no.result (number c.numbered.result)
+    (c.code-no.ensures ∙ c.refusal-before.ensures
+    ∙ (λ j. E.refusal_of a.bounds.now (c.under_count-h.ensures j) a.counts.now (near j)))
+    (c.numbered.ensures ∙ c.last_number-n.ensures)
 
 pub returns-in_err-g : goal.returns-in_err-g
 returns-in_err-g c =
@@ -47,7 +39,7 @@ returns-in_err-g c =
     let told : c.kept_sum.result ≡ kept_sum a.sums a.head.sum a.v =
     c.kept_sum.ensures ∙ (λ j. kept_sum a.sums (held a.head.sum f j) (held a.v c.ranges.v j)) in
     let e = c.in_err-g.field-0.0 in
-    let k : c.from_residual-in_err-g.result ≡ Err e = search rules in
+    let k : c.from_residual.result ≡ Err e = search rules in
     ap (λ r. outcome (said r) c.record.new.counts) k
     ∙ inside_law a.bounds.now a.sums a.head a.counts.now a.v c.in-Some.sum (refusal (number e)) (refusal (number e)) c.record.new.counts
     (sym told ∙ c.in-Some.is)

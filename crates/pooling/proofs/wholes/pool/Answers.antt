@@ -7,8 +7,8 @@ use mir.Val.{SFits}
 use Rattle.std.specs.Prelude.{Result}
 use Rattle.refusals.specs.Refusals.{number, said}
 use Rattle.refusals.specs.declared.Refusal.{Refusal}
-use Rattle.refusals.proofs.Numbers.{passed-on}
-use Rattle.integers.specs.Answers.{sum_of}
+use Rattle.refusals.proofs.Numbers.{code-most}
+use Rattle.integers.specs.Answers.{sum_of, last_number}
 use Rattle.integers.proofs.Range.{held}
 use Rattle.point.specs.Handing.{refusal_before}
 use Rattle.whole_point.specs.Handing.{Stored, shadow_stored}
@@ -17,13 +17,13 @@ use Rattle.listing.specs.declared.Cursor.{Cursor}
 use Rattle.listing.specs.declared.Entry.{Entry}
 use Rattle.pooling.specs.Lists.{ends, pooled}
 use Rattle.pooling.specs.Entries.{whole_in, stored_of, whole_of, shadow_entry, renumbered}
-use Rattle.whole_point.proofs.Call.{last-refused, last-none}
+use Rattle.points.proofs.WholeSums.{last-within}
 use Rattle.pooling.proofs.Whole.{bounds-long}
 use Rattle.pooling.proofs.Shadows.{outside-pooled, numberable, inside-pooled}
 use Rattle.pooling.proofs.wholes.pool.Goals as goal
 
-pub refusal_entries-requires : goal.refusal_entries-requires
-refusal_entries-requires c =
+pub refusal_entries-before-requires : goal.refusal_entries-before-requires
+refusal_entries-before-requires c =
     let Wholes : Entry → Entry → Type 0 = λ d g. whole_in c.args.a d c.args.abounds.now c.args.apos.now c.args.aneg.now × whole_in c.args.b g c.args.bbounds.now c.args.bpos.now c.args.bneg.now in
     let both-whole : Wholes c.shadow_entry-x.result c.shadow_entry-y.result =
     subst (λ (d : Entry). Wholes d c.shadow_entry-y.result) (sym c.shadow_entry-x.ensures)
@@ -54,23 +54,9 @@ renumber-requires c =
     let a = c.args in
     numberable a.size a.row a.e.bounds (first) (second) a.at (lent) (long) (said c.pool-r.result) (left) (pooled-shadows)
 
-pub returns-in_err-refusal_entries : goal.returns-in_err-refusal_entries
-returns-in_err-refusal_entries c =
-    let first : Stored = whole_of c.args.a c.args.e c.args.abounds.now c.args.apos.now c.args.aneg.now in
-    let second : Stored = whole_of c.args.b c.args.f c.args.bbounds.now c.args.bpos.now c.args.bneg.now in
-    let lent : Output = record { sets = c.args.sets.now; words = c.args.words.now; pos = c.args.pos.now; neg = c.args.neg.now } in
-    let first-sum : SFits w64 c.args.e.point.sum = search rules in
-    let second-sum : SFits w64 c.args.f.point.sum = search rules in
-    let told : c.sum.result ≡ sum_of (first).point.sum (second).point.sum = c.sum.ensures ∙ (λ j. sum_of (held c.args.e.point.sum (first-sum) j) (held c.args.f.point.sum (second-sum) j)) in
-    let a = c.args in
-    let e = c.in_err-refusal_entries.field-0.0 in
-    ap (λ r. ends (said r) (lent)) (passed-on c.from_residual.result e c.from_residual.ensures.1)
-    ∙ outside-pooled a.size a.row a.e.bounds (first) (second) a.at (lent) (sym (told) ∙ c.in_default.is)
-    (number e) (number e)
-    (c.in_err-refusal_entries.ensures
-    ∙ (λ i. refusal_before a.size (stored_of a.a (c.shadow_entry-x.ensures i) a.abounds.now a.apos.now a.aneg.now)
-    (stored_of a.b (c.shadow_entry-y.ensures i) a.bbounds.now a.bpos.now a.bneg.now)))
-    (last-refused e)
+pub numbered-requires : goal.numbered-requires
+numbered-requires c =
+    last-within _ _ (code-most c.refusal_entries-before.result) (c.last_number-n.ensures ∙ ap last_number c.code-no.ensures)
 
 pub returns-in_default : goal.returns-in_default
 returns-in_default c =
@@ -82,11 +68,11 @@ returns-in_default c =
     let told : c.sum.result ≡ sum_of (first).point.sum (second).point.sum = c.sum.ensures ∙ (λ j. sum_of (held c.args.e.point.sum (first-sum) j) (held c.args.f.point.sum (second-sum) j)) in
     let a = c.args in
     outside-pooled a.size a.row a.e.bounds (first) (second) a.at (lent) (sym (told) ∙ c.in_default.is)
-    0 16
-    (c.in_ok-refusal_entries.ensures
+    c.code-no.result (number c.numbered.result)
+    (c.code-no.ensures ∙ c.refusal_entries-before.ensures
     ∙ (λ i. refusal_before a.size (stored_of a.a (c.shadow_entry-x.ensures i) a.abounds.now a.apos.now a.aneg.now)
     (stored_of a.b (c.shadow_entry-y.ensures i) a.bbounds.now a.bpos.now a.bneg.now)))
-    last-none
+    (c.numbered.ensures ∙ c.last_number-n.ensures)
 
 pub returns : goal.returns
 returns c =

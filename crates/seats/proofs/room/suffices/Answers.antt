@@ -9,5 +9,5 @@ pub returns : goal.returns
 returns c =
     let a = c.args in
     c.suffices.ensures
-    ∙ ap (leb (a.limit + 2)) (c.min-least.ensures ∙ (λ i. min (c.min.ensures i) (c.min-rest.ensures i)))
+    ∙ ap (leb (a.limit + 2)) (c.lesser-least.ensures ∙ (λ i. min (c.lesser.ensures i) (c.lesser-rest.ensures i)))
     ∙ all_suffice (a.limit + 2) a.sets a.entries a.order a.cells

@@ -1,6 +1,6 @@
 -- The gauge after a line, from what its call says and leaves. Assumes nothing.
 use Prim.Native.Nat.{ℕ}
-use mathlib.Core.Path.{◌≡◌, refl, sym, ap, ◌∙◌, subst}
+use mathlib.Core.Path.{◌≡◌, refl, sym, ap, ◌∙◌}
 use mathlib.Core.Bool.{Bool, true, false}
 use mathlib.Core.List.{List, [], ◌∷◌}
 use mathlib.Core.Option.{none}
@@ -33,6 +33,7 @@ use Rattle.clock.specs.Starts.{turned}
 use Rattle.printing.specs.Printed.{collection_lines, unread_line}
 use Rattle.printing.specs.declared.Form.{Form}
 use Rattle.gauge_lines.specs.declared.cells.Gauge.{Gauge}
+use Rattle.gauge_lines.specs.declared.collect.Collected.{Collected}
 use Rattle.gauge_lines.specs.declared.collect.Next.{Next}
 use Rattle.gauge_lines.specs.declared.collect.Turn.{Turn}
 use Rattle.gauge_lines.specs.declared.fields.Wanted.{Wanted}
@@ -42,7 +43,7 @@ use Rattle.gauge_lines.specs.declared.fields.Call.TheVariants as C
 use Rattle.gauge_lines.specs.Lines.{settings_of, board_of, attributes_in, time_of, call_of}
 use Rattle.gauge_lines.specs.Followed.{Outcome, outcome, After, after, taken_with, begun_by, configured_by, started_by, after_start}
 use Rattle.gauge_lines.specs.Followed.{answered_by, measured_by, recorded_by, after_record}
-use Rattle.gauge_lines.specs.Followed.{Followed, Collected, collected, told, turned_by, no_bounds, listed_by, collected_by, after_collect}
+use Rattle.gauge_lines.specs.Followed.{Followed, collected, turned_by, no_bounds, listed_by, collected_by, after_collect}
 use Rattle.gauge_lines.specs.Followed.{silent_by, by_call, after_call, numbered}
 
 -- ---- `e` and `r`
@@ -172,30 +173,30 @@ module _ (form : Form) (g : Gauge) (bs : List ℕ) (over : Bool) (n : ℕ) (bloc
 
 -- ---- and its number
 
--- a line that was followed: nothing is said
-module _ (number : ℕ) (g : Gauge) (n : ℕ) (block : List ℕ) (s : Stores) (c : Cells) (o : Output) where
-  taken-told : (next : Next) → left (told (numbered number (left (collected g n (Some next)) block s c o)) next) block s c o
-      ≡ numbered number (left (collected g n (Some next)) block s c o)
-  unfolding pick ◌behind◌
-  taken-told next = refl
+-- a call that left m bytes of a block, and then `? N` or nothing behind them
+pub line-numbered : (number : ℕ) (x : Collected) (block : List ℕ) (s : Stores) (c : Cells) (o : Output) (y : Followed)
+    → left x block s c o ≡ y → (m : ℕ) (block' : List ℕ)
+    → text m block' ≡ pick x.taken [] (unread_line number) behind text x.text block
+    → left (record { taken = x.taken; gauge = x.gauge; text = m }) block' s c o ≡ numbered number y
+line-numbered number x block s c o y p m block' w =
+    ap (λ (t : Text). record { taken = x.taken; gauge = x.gauge; text = t; stores = s; cells = c; out = o }) w ∙ ap (numbered number) p
 
+module _ (number : ℕ) (g : Gauge) (n : ℕ) (block : List ℕ) (s : Stores) (c : Cells) (o : Output) where
+  nothing-said : (m : ℕ) → text m block ≡ pick true [] (unread_line number) behind text m block
+  unfolding pick ◌behind◌
+  nothing-said m = refl
+
+  -- a line that was followed: nothing is said
   pub line-followed : (r : Option Next) (next : Next) → r ≡ Some next → (y : Followed) → left (collected g n r) block s c o ≡ y
-      → left (told (numbered number y) next) block s c o ≡ numbered number y
+      → left (collected g n (Some next)) block s c o ≡ numbered number y
   line-followed r next e y p =
-      subst (λ (x : Followed). left (told (numbered number x) next) block s c o ≡ numbered number x)
-      (ap (λ (x : Option Next). left (collected g n x) block s c o) (sym e) ∙ p) (taken-told next)
+      line-numbered number (collected g n (Some next)) block s c o y (ap (λ (x : Option Next). left (collected g n x) block s c o) (sym e) ∙ p)
+      next.text block (nothing-said next.text)
 
   -- one that was not: `? N` behind what waits
-  refused-told : (m : ℕ) (block' : List ℕ) → text m block' ≡ (unread_line number behind text n block)
-      → left (told (numbered number (left (collected g n None) block s c o)) (record { gauge = g; text = m })) block' s c o
-      ≡ numbered number (left (collected g n None) block s c o)
-  unfolding pick
-  refused-told m block' w =
-      ap (λ (t : Text). record { taken = false; gauge = g; text = t; stores = s; cells = c; out = o }) w
-
   pub line-refused : (r : Option Next) → r ≡ None → (y : Followed) → left (collected g n r) block s c o ≡ y → (m : ℕ) (block' : List ℕ)
       → text m block' ≡ (unread_line number behind text n block)
-      → left (told (numbered number y) (record { gauge = g; text = m })) block' s c o ≡ numbered number y
+      → left (record { taken = false; gauge = g; text = m }) block' s c o ≡ numbered number y
+  unfolding pick
   line-refused r e y p m block' w =
-      subst (λ (x : Followed). left (told (numbered number x) (record { gauge = g; text = m })) block' s c o ≡ numbered number x)
-      (ap (λ (x : Option Next). left (collected g n x) block s c o) (sym e) ∙ p) (refused-told m block' w)
+      line-numbered number (collected g n None) block s c o y (ap (λ (x : Option Next). left (collected g n x) block s c o) (sym e) ∙ p) m block' w

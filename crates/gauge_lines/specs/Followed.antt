@@ -28,6 +28,7 @@ use Rattle.printing.specs.Printed.{collection_lines, unread_line}
 use Rattle.printing.specs.declared.Form.{Form}
 use Rattle.gauge_lines.specs.Lines.{settings_of, board_of, attributes_in, time_of, call_of}
 use Rattle.gauge_lines.specs.declared.cells.Gauge.{Gauge}
+use Rattle.gauge_lines.specs.declared.collect.Collected.{Collected}
 use Rattle.gauge_lines.specs.declared.collect.Next.{Next}
 use Rattle.gauge_lines.specs.declared.fields.Board.{Board}
 use Rattle.gauge_lines.specs.declared.fields.Wanted.{Wanted}
@@ -126,12 +127,6 @@ pub record Followed : Type 0 where
   pub cells : Cells
   pub out : Output
 
--- whether a line was accepted, the gauge after it, and how much text there is then
-pub record Collected : Type 0 where
-  pub taken : Bool
-  pub gauge : Gauge
-  pub text : ℕ
-
 -- as a call answers it that found the gauge g and n bytes of text
 abbrev pub collected : Gauge → ℕ → Std.Option Next → Collected
 collected g n None = record { taken = false; gauge = g; text = n }
@@ -219,7 +214,3 @@ numbered number x =
 
 abbrev pub after_line : Form → ℕ → Gauge → List ℕ → Bool → Text → Stores → Cells → Output → Followed
 after_line form number g bs over t s c o = numbered number (after_call form g bs over t s c o)
-
--- what is left of a line whose number was said, where it was refused
-abbrev pub told : Followed → Next → Collected
-told x r = record { taken = x.taken; gauge = r.gauge; text = r.text }

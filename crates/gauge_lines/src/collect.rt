@@ -20,6 +20,14 @@ pub struct Next {
     pub text: usize,
 }
 
+// What came of a line: whether it was accepted, the gauge after it, and how much text there is then.
+#[derive(Clone, Copy)]
+pub struct Collected {
+    pub taken: bool,
+    pub gauge: Gauge,
+    pub text: usize,
+}
+
 // The gauge after a collection that left the directory so, and the start that it hands out.
 #[derive(Clone, Copy)]
 struct Turn {

@@ -13,10 +13,10 @@ ghost use Rattle.lines.specs.Gathered.{waiting};
 ghost use Rattle.directory.specs.View.{stores};
 ghost use Rattle.exponential_slots.specs.Cells.{cells as cells_in};
 ghost use Rattle.listing.specs.Listed.{output};
-ghost use Rattle.gauge_lines.specs.Followed.{collected, followed, told, after_call, after_line};
+ghost use Rattle.gauge_lines.specs.Followed.{collected, followed, after_call, after_line};
 
 use cells::{Counts, Entries, Extremes, Figures, Gauge, Order, Sets, Words};
-use collect::Next;
+use collect::{Collected, Next};
 use fields::Call;
 use lines::Block;
 use printing::Form;
@@ -89,10 +89,8 @@ fn follow(
     out_words: &mut Words,
     out_pos: &mut Counts,
     out_neg: &mut Counts,
-) -> Next
-    ensures { followed (told (after_line form number g line.now over (waiting n text.old) (stores sets.old entries.old order.old)
-        (cells_in figures.old extremes.old pos.old neg.old)
-        (output out_sets.old out_words.old out_pos.old out_neg.old)) result) text.new (stores sets.new entries.new order.new)
+) -> Collected
+    ensures { followed result text.new (stores sets.new entries.new order.new)
         (cells_in figures.new extremes.new pos.new neg.new)
         (output out_sets.new out_words.new out_pos.new out_neg.new)
         ≡ after_line form number g line.now over (waiting n text.old) (stores sets.old entries.old order.old)
@@ -104,8 +102,13 @@ fn follow(
         out_sets, out_words, out_pos, out_neg,
     );
     match made {
-        Some(next) => next,
-        None => Next {
+        Some(next) => Collected {
+            taken: true,
+            gauge: next.gauge,
+            text: next.text,
+        },
+        None => Collected {
+            taken: false,
             gauge: g,
             text: printing::unread(out, text, n, number),
         },

@@ -1,8 +1,8 @@
 -- What a line comes to, by the calls that it makes: one law for each way. Assumes nothing.
 use Prim.Native.Nat.{ℕ, ◌≤◌, ◌<◌}
-use mathlib.Core.Path.{◌≡◌, refl, sym, ap, ◌∙◌, subst}
-use mathlib.Core.Bool.{Bool, false}
-use mathlib.Core.List.{List}
+use mathlib.Core.Path.{◌≡◌, refl, sym, ap, ◌∙◌}
+use mathlib.Core.Bool.{Bool, true, false}
+use mathlib.Core.List.{List, []}
 use borrow.Author.Tests.{lt-ltb, le-ltb}
 use Rattle.laws.specs.Pick.{pick}
 use Rattle.laws.proofs.Bools.{pick_true, pick-false}
@@ -29,10 +29,11 @@ use Rattle.gauge_lines.specs.declared.fields.Call.TheVariants as C
 use Rattle.gauge_lines.proofs.Following.{answer-of}
 use Rattle.sheet_writing.specs.Writing.{writing}
 use Rattle.sheet.specs.Shown.{Wrote, wrote, wrote_by, records_of}
-use Rattle.sheet.specs.Followed.{outside_of, Done, done, taken_by, told, Went, went_on, opened, record_put, in_sheet, Followed, header_of, collected_with, listed_by}
+use Rattle.sheet.specs.Followed.{outside_of, done, taken_by, Went, went_on, opened, record_put, in_sheet, Followed, header_of, collected_with, listed_by}
 use Rattle.sheet.specs.Followed.{collected_by, after_collect, silent_by, by_call, after_call, aside, by_records, after_step, numbered}
 use Rattle.sheet.specs.declared.collect.Turn.{Turn}
 use Rattle.sheet.specs.declared.state.State.{State}
+use Rattle.sheet.specs.declared.state.Done.{Done}
 use Rattle.sheet.specs.declared.state.Next.{Next}
 use Rattle.sheet.proofs.Sheets.{text, gone_by}
 
@@ -147,31 +148,37 @@ module _ (st : State) (bs : List ℕ) (over : Bool) (n : ℕ) (block : List ℕ)
 
 -- ---- and its number
 
--- a line that was followed: nothing is said
-module _ (number : ℕ) (g : Gauge) (n : ℕ) (block : List ℕ) (s : Stores) (c : Cells) (x : Source) (b : List ℕ) where
-  taken-told : (next : Next) → left (told (numbered number (left (done g n (Some next)) block s c x b)) next) block s c x b
-      ≡ numbered number (left (done g n (Some next)) block s c x b)
-  unfolding pick ◌behind◌
-  taken-told next = refl
+-- a line that left so many bytes of a block, and then `? N` or nothing behind them
+pub line-numbered : (number : ℕ) (z : Done) (block : List ℕ) (s : Stores) (c : Cells) (x : Source) (b : List ℕ) (y : Followed)
+    → left z block s c x b ≡ y → (m : ℕ) (block' : List ℕ)
+    → text m block' ≡ pick z.taken [] (unread_line number) behind text z.text block
+    → left (record { taken = z.taken; state = z.state; text = m }) block' s c x b ≡ numbered number y
+line-numbered number z block s c x b y p m block' w =
+    ap (λ (t : Text). record { taken = z.taken; state = z.state; text = t; stores = s; cells = c; list = x; bytes = b }) w
+    ∙ ap (numbered number) p
 
+module _ (number : ℕ) (g : Gauge) (n : ℕ) (block : List ℕ) (s : Stores) (c : Cells) (x : Source) (b : List ℕ) where
+  nothing-said : (m : ℕ) → text m block ≡ pick true [] (unread_line number) behind text m block
+  unfolding pick ◌behind◌
+  nothing-said m = refl
+
+  -- a line that was followed: nothing is said
   pub line-followed : (r : Option Next) (next : Next) → r ≡ Some next → (y : Followed) → left (done g n r) block s c x b ≡ y
-      → left (told (numbered number y) next) block s c x b ≡ numbered number y
+      → left (done g n (Some next)) block s c x b ≡ numbered number y
   line-followed r next e y p =
-      subst (λ (z : Followed). left (told (numbered number z) next) block s c x b ≡ numbered number z)
-      (ap (λ (z : Option Next). left (done g n z) block s c x b) (sym e) ∙ p) (taken-told next)
+      line-numbered number (done g n (Some next)) block s c x b y (ap (λ (z : Option Next). left (done g n z) block s c x b) (sym e) ∙ p)
+      next.text block (nothing-said next.text)
 
   -- one that was not: `? N` behind what waits
-  refused-told : (m : ℕ) (block' : List ℕ) → text m block' ≡ (unread_line number behind text n block)
-      → left (told (numbered number (left (done g n None) block s c x b)) (record { state = outside_of g; text = m })) block' s c x b
-      ≡ numbered number (left (done g n None) block s c x b)
+  refused-said : (r : Option Next) → r ≡ None → (y : Followed) → left (done g n r) block s c x b ≡ y → (m : ℕ) (block' : List ℕ)
+      → text m block' ≡ (unread_line number behind text n block)
+      → left (record { taken = false; state = outside_of g; text = m }) block' s c x b ≡ numbered number y
   unfolding pick
-  refused-told m block' w =
-      ap (λ (t : Text). record { taken = false; state = outside_of g; text = t; stores = s; cells = c; list = x; bytes = b }) w
+  refused-said r e y p m block' w =
+      line-numbered number (done g n None) block s c x b y (ap (λ (z : Option Next). left (done g n z) block s c x b) (sym e) ∙ p) m block' w
 
   pub line-refused : (r : Option Next) → r ≡ None → (y : Followed) → left (done g n r) block s c x b ≡ y → (m : ℕ) (block' : List ℕ)
-      → text m block' ≡ (unread_line number behind text n block) → (k : Next) → k ≡ record { state = outside_of g; text = m }
-      → left (told (numbered number y) k) block' s c x b ≡ numbered number y
+      → text m block' ≡ (unread_line number behind text n block) → (k : State) → k ≡ outside_of g
+      → left (record { taken = false; state = k; text = m }) block' s c x b ≡ numbered number y
   line-refused r e y p m block' w k q =
-      ap (λ (z : Next). left (told (numbered number y) z) block' s c x b) q
-      ∙ subst (λ (z : Followed). left (told (numbered number z) (record { state = outside_of g; text = m })) block' s c x b ≡ numbered number z)
-      (ap (λ (z : Option Next). left (done g n z) block s c x b) (sym e) ∙ p) (refused-told m block' w)
+      ap (λ (z : State). left (record { taken = false; state = z; text = m }) block' s c x b) q ∙ refused-said r e y p m block' w

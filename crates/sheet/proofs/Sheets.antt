@@ -24,7 +24,8 @@ use Rattle.sheet_reading.specs.Reading.{reading}
 use Rattle.sheet_reading.specs.declared.Listed.{Listed}
 use Rattle.sheet.specs.Digits.{is_record, bytes_in}
 use Rattle.sheet.specs.Shown.{refusal_line, sheet_lines, wrote, wrote_by, few_in, records_of, Shown, shown, shown_by}
-use Rattle.sheet.specs.Followed.{outside_of, Done, done, taken_by, Went, read_by, went_on, no_line, record_put, in_sheet}
+use Rattle.sheet.specs.declared.state.Done.{Done}
+use Rattle.sheet.specs.Followed.{outside_of, done, taken_by, Went, read_by, went_on, no_line, record_put, in_sheet}
 use Rattle.sheet.specs.declared.state.State.{State}
 use Rattle.sheet.specs.declared.state.Next.{Next}
 

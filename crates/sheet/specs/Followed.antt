@@ -25,17 +25,12 @@ use Rattle.sheet_reading.specs.Reading.{reading}
 use Rattle.sheet.specs.Digits.{is_record, bytes_in}
 use Rattle.sheet.specs.Shown.{Wrote, wrote_by, records_of, Shown, shown_by}
 use Rattle.sheet.specs.declared.state.State.{State}
+use Rattle.sheet.specs.declared.state.Done.{Done}
 use Rattle.sheet.specs.declared.state.Next.{Next}
 
 -- outside a sheet
 abbrev pub outside_of : Gauge → State
 outside_of g = record { gauge = g; left = 0; at = 0 }
-
--- what came of a line: whether it was followed, how the program stands, and how much text there is then
-pub record Done : Type 0 where
-  pub taken : Bool
-  pub state : State
-  pub text : ℕ
 
 -- as a call answers it that is always followed
 abbrev pub taken_by : Next → Done
@@ -184,7 +179,3 @@ numbered number y =
 
 abbrev pub after_line : ℕ → State → List ℕ → Bool → Text → Stores → Cells → Source → List ℕ → Followed
 after_line number st bs over t s c x b = numbered number (after_step st bs over t s c x b)
-
--- what is left of a line whose number was said, where it was refused
-abbrev pub told : Followed → Next → Done
-told y r = record { taken = y.taken; state = r.state; text = r.text }

@@ -4,10 +4,10 @@ ghost use Rattle.lines.specs.Gathered.{waiting};
 ghost use Rattle.directory.specs.View.{stores};
 ghost use Rattle.exponential_slots.specs.Cells.{cells as cells_in};
 ghost use Rattle.pooling.specs.Lists.{source};
-ghost use Rattle.sheet.specs.Followed.{done, followed, told, after_step, after_line};
+ghost use Rattle.sheet.specs.Followed.{done, followed, after_step, after_line};
 
 use crate::reading;
-use crate::state::{Bytes, ListedBounds, ListedCounts, ListedSets, ListedWords, Next, State};
+use crate::state::{Bytes, Done, ListedBounds, ListedCounts, ListedSets, ListedWords, Next, State};
 use gauge_lines::cells::{Counts, Entries, Extremes, Figures, Order, Sets};
 use lines::Block;
 use std::io::Stdout;
@@ -79,10 +79,8 @@ pub fn follow(
     out_neg: &mut ListedCounts,
     bounds: &mut ListedBounds,
     sheet: &mut Bytes,
-) -> Next
-    ensures { followed (told (after_line number st line.now over (waiting n text.old) (stores sets.old entries.old order.old)
-        (cells_in figures.old extremes.old pos.old neg.old)
-        (source out_sets.old out_words.old out_pos.old out_neg.old bounds.old) sheet.old) result) text.new (stores sets.new entries.new order.new)
+) -> Done
+    ensures { followed result text.new (stores sets.new entries.new order.new)
         (cells_in figures.new extremes.new pos.new neg.new)
         (source out_sets.new out_words.new out_pos.new out_neg.new bounds.new) sheet.new
         ≡ after_line number st line.now over (waiting n text.old) (stores sets.old entries.old order.old)
@@ -94,7 +92,15 @@ pub fn follow(
         out_words, out_pos, out_neg, bounds, sheet,
     );
     match made {
-        Some(next) => next,
-        None => crate::state::ended(st.gauge, printing::unread(out, text, n, number)),
+        Some(next) => Done {
+            taken: true,
+            state: next.state,
+            text: next.text,
+        },
+        None => Done {
+            taken: false,
+            state: crate::state::outside(st.gauge),
+            text: printing::unread(out, text, n, number),
+        },
     }
 }

@@ -32,6 +32,14 @@ pub struct Next {
     pub text: usize,
 }
 
+// What came of a line: whether it was followed, how the program stands, and how much text there is then.
+#[derive(Clone, Copy)]
+pub struct Done {
+    pub taken: bool,
+    pub state: State,
+    pub text: usize,
+}
+
 // Outside a sheet.
 pub fn outside(gauge: Gauge) -> State
     ensures { result ≡ outside_of gauge }

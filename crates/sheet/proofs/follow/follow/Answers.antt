@@ -9,4 +9,4 @@ returns-in-Some c =
 pub returns-in-None : goal.returns-in-None
 returns-in-None c =
     line-refused _ c.args.st.gauge c.args.n _ _ _ _ _ c.step-made.result c.in-None.is _ c.step-made.ensures
-    c.unread.result _ c.unread.ensures c.ended.result c.ended.ensures
+    c.unread.result _ c.unread.ensures c.outside.result c.outside.ensures

@@ -78,6 +78,10 @@ answered s n told dir handles start listed collected =
 abbrev pub unread_by : State → State
 unread_by s = answered s (Err Unread) s.told s.dir s.handles s.start s.listed s.collected
 
+-- one that is not accepted
+abbrev pub failed_by : Fault → State → State
+failed_by f s = answered s (Err f) s.told s.dir s.handles s.start s.listed s.collected
+
 abbrev pub refused_by : ℕ → State → State
 refused_by n s = answered s (refused n) s.told s.dir s.handles s.start s.listed s.collected
 

@@ -4,7 +4,7 @@ ghost use Rattle.std.proofs.Math.Option.{some};
 ghost use Rattle.laws.specs.Said.{success};
 ghost use Rattle.bindings.specs.Calls as bindings-calls;
 ghost use Rattle.refusals.specs.Refusals.{number, said};
-ghost use Rattle.replay_state.specs.After.{answered, accepted, unread_by, refused_by, accepted_in, not_begun, newly_begun, done_by, collected_by};
+ghost use Rattle.replay_state.specs.After.{answered, accepted, unread_by, failed_by, accepted_in, not_begun, newly_begun, done_by, collected_by};
 
 use crate::{Fault, State};
 use bindings::Reply;
@@ -21,12 +21,12 @@ pub fn unread(s: State) -> State
     next
 }
 
-// A line whose call is refused.
-pub fn refused(s: State, no: Refusal) -> State
-    ensures { result ≡ refused_by (number no) s }
+// A line that is not accepted: its call is refused, or it can't be read.
+pub fn refused(s: State, fault: Fault) -> State
+    ensures { result ≡ failed_by fault s }
 {
     let mut next = s;
-    next.no = Err(Fault::Refused(no));
+    next.no = Err(fault);
     next
 }
 
@@ -100,7 +100,7 @@ pub fn done(s: State, reply: Reply) -> State
     let answer = reply.answer;
     let dir = reply.dir;
     match answer {
-        Err(no) => refused(s, no),
+        Err(no) => refused(s, Fault::Refused(no)),
         Ok(handle) => match handle {
             None => accepted(s, dir, 0),
             Some(birth) => bound(s, dir, birth),
@@ -140,7 +140,7 @@ pub fn collected(s: State, dir: Directory, answer: Result<usize, Refusal>) -> St
     ensures { result ≡ collected_by (said answer) dir s }
 {
     match answer {
-        Err(no) => refused(s, no),
+        Err(no) => refused(s, Fault::Refused(no)),
         Ok(many) => turned(s, dir, many),
     }
 }

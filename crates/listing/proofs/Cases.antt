@@ -8,10 +8,11 @@ use native.Mathlib.Omega.{arith}
 use native.Mathlib.Numerals.{add-one}
 use borrow.Author.Tests.{le-leb, lt-leb, lt-ltb, le-ltb}
 use lib.Dec.{leb, ltb}
-use lib.ListN.{length, take, drop, length-drop, drop_of_length-le}
-use lib.Seq.{take_all, length-take-le, drop-length}
+use lib.ListN.{length, get_or, set, take, drop, length-drop, drop_of_length-le}
+use lib.Seq.{take-suc, take_all, length-take-le, drop-length}
 use Rattle.laws.specs.Counting.{bit}
 use Rattle.laws.specs.Over.{over}
+use Rattle.laws.proofs.Over.{over-snoc}
 use Rattle.laws.proofs.Differences.{le_or-lt}
 use Rattle.floats.specs.Answers.{is_shown, bits_of}
 use Rattle.point.specs.declared.Point.{Point}
@@ -78,6 +79,17 @@ module _ (p : Point) (b : Span) (fl lo hi su : ℕ) (f : fl ≡ bit p.extremes +
   words-by g e = ap (λ (u : List ℕ). figures_words g b ++ u) last-is ∙ ap (λ (x : Figures). figures_words x b ++ last) (sym e)
 
 -- ---- copied counts
+
+pub copy-turn : (cs old out : List ℕ) (i : ℕ) → i < length cs → i < length old → out ≡ over (take i cs) old
+    → set out i (get_or cs i 0) ≡ over (take (i + 1) cs) old
+copy-turn cs old out i h k e =
+    let n : length (take i cs) ≡ i = length-take-le i cs (omega arith) in
+    let v = get_or cs i 0 in
+    ap (λ (l : List ℕ). set l i v) e
+    ∙ ap (λ (j : ℕ). set (over (take i cs) old) j v) (sym n)
+    ∙ over-snoc (take i cs) old v (omega arith)
+    ∙ ap (λ (l : List ℕ). over l old) (sym (take-suc cs i 0 h))
+    ∙ ap (λ (j : ℕ). over (take j cs) old) (sym (add-one i))
 
 -- counts laid over a part that they fill
 pub part-laid : (a n : ℕ) (ys xs : List ℕ) → length ys ≡ n → a + n ≤ length xs

@@ -58,7 +58,9 @@ fn copy(counts: &[u64], n: usize, out: &mut [u64])
     requires { (n ≤ length counts.now) × (n ≤ length out.old) }
     ensures { out.new ≡ over (take n counts.now) out.old }
 {
-    out[..n].copy_from_slice(&counts[..n]);
+    for i in 0..n {
+        out[i] = counts[i];
+    }
 }
 
 // Puts a point at the cursor: its set's row, its words, and the first counts of `cpos` and `cneg`, as many as it has; the next cursor.

@@ -1,17 +1,21 @@
 -- `listing::put::copy` meets its contract. Assumes nothing.
-use Prim.Native.Nat.{ℕ}
-use mathlib.Core.Path.{◌≡◌, sym, ap, ◌∙◌}
-use mathlib.Core.List.{List, ◌++◌}
+use mathlib.Core.Path.{◌≡◌, sym}
 use native.Mathlib.Omega.{arith}
-use lib.ListN.{length, take, drop}
-use lib.Seq.{length-take-le}
-use Rattle.laws.specs.Over.{over}
+use Rattle.laws.proofs.Over.{over_none}
+use Rattle.listing.proofs.Cases.{copy-turn}
 use Rattle.listing.proofs.put.copy.Goals as goal
 
+pub loop-i-init : goal.loop-i-init
+loop-i-init c = sym (over_none c.args.out.now)
+
+pub loop-i-preserved : goal.loop-i-preserved
+loop-i-preserved c =
+    let a = c.args in
+    let l = c.loop-i in
+    copy-turn a.counts.now a.out.now l.out l.i (omega arith) (omega arith) l.invariant
+
 pub returns : goal.returns
-unfolding over
 returns c =
-    let xs : List ℕ = c.args.counts.now in
-    let l : length (take c.args.n xs) ≡ c.args.n = length-take-le c.args.n xs (omega arith) in
-    ap (λ (t : List ℕ). t ++ drop c.args.n c.args.out.now) c.copy_from_slice.ensures.after
-    ∙ ap (λ (k : ℕ). take c.args.n xs ++ drop k c.args.out.now) (sym l)
+    let l = c.loop-i in
+    let e : l.i ≡ c.args.n = omega arith in
+    rw e at l.invariant

@@ -61,7 +61,9 @@ pub fn record(
     let c = head.counts;
     let h = under_counts(c);
     let x = integers::nearest(v);
-    exponential::refusal(size, top, h, pos, neg, x)?;
+    if let Err(no) = exponential::refusal(size, top, h, pos, neg, x) {
+        return Err(no);
+    }
     let sum = integers::kept_sum(sums, head.sum, v).ok_or(Refusal::SumOutside)?;
     let counts = exponential::count_in(size, top, h, pos, neg, x);
     Ok(Head {

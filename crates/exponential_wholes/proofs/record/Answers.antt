@@ -18,40 +18,37 @@ use Rattle.exponential_wholes.specs.Series.{outcome}
 use Rattle.exponential_wholes.proofs.Call.{before, refused_law, outside_law, inside_law}
 use Rattle.exponential_wholes.proofs.record.Goals as goal
 
-pub returns-in_err-refusal : goal.returns-in_err-refusal
-returns-in_err-refusal c =
+pub returns-in-Err : goal.returns-in-Err
+returns-in-Err c =
     let a = c.args in
-    let e = c.in_err-refusal.field-0.0 in
     let near : c.nearest-x.result ≡ nearest_of a.v = c.nearest-x.ensures ∙ ap nearest_of (held a.v c.ranges.v) in
-    let told : number e ≡ before a.size a.top a.sums a.head a.pos.now a.neg.now a.v =
-    c.in_err-refusal.ensures
+    let told : number c.in-Err.no ≡ before a.size a.top a.sums a.head a.pos.now a.neg.now a.v =
+    c.in-Err.ensures
     ∙ (λ j. E.refusal_of a.size a.top (c.under_counts-h.ensures j) a.pos.now a.neg.now (near j)) in
-    let k : c.from_residual.result ≡ Err e = search rules in
-    ap (λ r. outcome (said r) a.pos.now a.neg.now) k
-    ∙ refused_law a.size a.top a.sums a.head a.pos.now a.neg.now a.v (number e) told (number-nonzero e)
+    refused_law a.size a.top a.sums a.head a.pos.now a.neg.now a.v (number c.in-Err.no) told (number-nonzero c.in-Err.no)
 
 pub returns-in_err-sum : goal.returns-in_err-sum
 returns-in_err-sum c =
     let a = c.args in
     let near : c.nearest-x.result ≡ nearest_of a.v = c.nearest-x.ensures ∙ ap nearest_of (held a.v c.ranges.v) in
     let none : before a.size a.top a.sums a.head a.pos.now a.neg.now a.v ≡ 0 =
-    sym (c.in_ok-refusal.ensures ∙ (λ j. E.refusal_of a.size a.top (c.under_counts-h.ensures j) a.pos.now a.neg.now (near j))) in
+    sym (c.in_default.ensures ∙ (λ j. E.refusal_of a.size a.top (c.under_counts-h.ensures j) a.pos.now a.neg.now (near j))) in
     let f : SFits w64 a.head.sum = search rules in
     let summed : c.kept_sum.result ≡ kept_sum a.sums a.head.sum a.v =
     c.kept_sum.ensures ∙ (λ j. kept_sum a.sums (held a.head.sum f j) (held a.v c.ranges.v j)) in
-    let k : c.from_residual-in_err-sum.result ≡ Err SumOutside = search rules in
+    let k : c.from_residual.result ≡ Err SumOutside = search rules in
     ap (λ r. outcome (said r) a.pos.now a.neg.now) k
     ∙ outside_law a.size a.top a.sums a.head a.pos.now a.neg.now a.v none (sym summed ∙ c.in_err-sum.ensures.ok_part)
 
 pub count_in-counts-requires : goal.count_in-counts-requires
-count_in-counts-requires c = sym c.in_ok-refusal.ensures
+count_in-counts-requires c = sym c.in_default.ensures
 
 pub returns : goal.returns
 returns c =
     let a = c.args in
     let near : c.nearest-x.result ≡ nearest_of a.v = c.nearest-x.ensures ∙ ap nearest_of (held a.v c.ranges.v) in
     let none : before a.size a.top a.sums a.head a.pos.now a.neg.now a.v ≡ 0 =
-    sym (c.in_ok-refusal.ensures ∙ (λ j. E.refusal_of a.size a.top (c.under_counts-h.ensures j) a.pos.now a.neg.now (near j))) in
+    sym (c.in_default.ensures ∙ (λ j. E.refusal_of a.size a.top (c.under_counts-h.ensures j) a.pos.now a.neg.now (near j))) in
     let f : SFits w64 a.head.sum = search rules in
     let summed : c.kept_sum.result ≡ kept_sum a.sums a.head.sum a.v =
     c.kept_sum.ensures ∙ (λ j. kept_sum a.sums (held a.head.sum f j) (held a.v c.ranges.v j)) in

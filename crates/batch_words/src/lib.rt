@@ -1,2 +1,2 @@
-// What a call with many values hands to programs in other languages: specs/ and proofs/ hold it, and no code.
+// What a call with many values hands to programs in other languages: specs/ holds it, and no code.
 #![tactic(auto)]

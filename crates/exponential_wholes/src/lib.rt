@@ -61,6 +61,7 @@ pub fn record(
     let c = head.counts;
     let h = under_counts(c);
     let x = integers::nearest(v);
+    // Not `?`: must-fail/sixteen_first.edit changes what is handed on here.
     if let Err(no) = exponential::refusal(size, top, h, pos, neg, x) {
         return Err(no);
     }

@@ -58,6 +58,7 @@ fn copy(counts: &[u64], n: usize, out: &mut [u64])
     requires { (n ≤ length counts.now) × (n ≤ length out.old) }
     ensures { out.new ≡ over (take n counts.now) out.old }
 {
+    // Not copy_from_slice: that is memmove, which an archive for C would need from outside.
     for i in 0..n {
         out[i] = counts[i];
     }

@@ -1,6 +1,6 @@
 -- A BATCH BY HANDLE, AND ONE INTO A SET, as a kind's code comes by them: what its seating allows and shows, its end, and a batch of one value,
 -- which is the single call. For any kind that pays what it owes. Assumes nothing.
-use Prim.Native.Nat.{ℕ, suc, ◌+◌, ◌-◌, ◌^◌, ◌<◌}
+use Prim.Native.Nat.{ℕ, suc, ◌+◌, ◌^◌, ◌<◌}
 use mathlib.Core.Path.{◌≡◌, refl, ap, sym, subst, ◌∙◌}
 use mathlib.Core.Logic.{⊎_elim}
 use mathlib.Core.Bool.{Bool, true, false, ◌&&◌}
@@ -17,6 +17,7 @@ use Rattle.laws.proofs.Bools.{flag}
 use Rattle.laws.proofs.Cases.{and-true}
 use Rattle.rows.specs.Recording.{Recording}
 use Rattle.refusals.specs.Refusals.{code}
+use Rattle.refusals.specs.declared.Refusal.{Refusal}
 use Rattle.many.specs.Many.{Many, many, one_more, each}
 use Rattle.many.proofs.Turns.{either, each_on, each-stop, each_none}
 use Rattle.many.proofs.Alike.{pick_first, pick_second}
@@ -205,7 +206,7 @@ module _ {Cells : Type 0} where
 
   -- the batch x of one value, what the single call r replies of it, and the call o
   replied : {A : Type 0} (f : Held Cells → A → Recording (Held Cells)) (h : Held Cells) (v : A) (o : Outcome Cells) → f h v ≡ one o → Told o
-      → (x : Batch) (r : Reply) → (said r.answer ≡ answer_of (code x.end)) × (r.dir ≡ x.dir)
+      → (x : Batch Refusal) (r : Reply Refusal) → (said r.answer ≡ answer_of (code x.end)) × (r.dir ≡ x.dir)
       → (s : Stores) (c : Cells) → many x.taken (code x.end) (held x.dir s c) ≡ each f h (v ∷ []) → gave r s c ≡ o
   replied f h v o e k x r g s c i =
       let n : code x.end ≡ number o.answer = ap (λ (m : Many (Held Cells)). m.no) i ∙ (one_left f h v).0 ∙ ap (λ (y : Recording (Held Cells)). y.no) e in
@@ -231,7 +232,7 @@ module _ {K : Kind} (S : Store K) (limit : ℕ) (h : Held S.Cells) (v : K.Value)
   unfolding called
   called-told n ok row a = entered-told row (unless_barred (barred_by (lent S limit h) (K.finite v) n (passes S && ok)) a)
 
-  module _ (x : Batch) (r : Reply) (g : (said r.answer ≡ answer_of (code x.end)) × (r.dir ≡ x.dir)) (s : Stores) (c : S.Cells) where
+  module _ (x : Batch Refusal) (r : Reply Refusal) (g : (said r.answer ≡ answer_of (code x.end)) × (r.dir ≡ x.dir)) (s : Stores) (c : S.Cells) where
     pub one-by : (b : ℕ) → many x.taken (code x.end) (held x.dir s c) ≡ measured_all_by S limit h (v ∷ []) b → gave r s c ≡ measured_by S limit h v b
     unfolding measured_all_by measured_by
     one-by b e =

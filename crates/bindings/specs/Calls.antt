@@ -20,10 +20,13 @@ use Rattle.laws.specs.Counting.{most_count}
 
 -- "a definition gives this paper's number and values for each case of that enum": success has no value, or a binding's birth number, which a
 -- handle holds
+abbrev pub said_by : {E : Type 0} → (E → ℕ) → Result (Std.Option ℕ) E → Said (Option ℕ)
+said_by number_of (Err e) = refusal (number_of e)
+said_by number_of (Ok Std.None) = success none
+said_by number_of (Ok (Std.Some b)) = success (some b)
+
 abbrev pub said : Result (Std.Option ℕ) Refusal → Said (Option ℕ)
-said (Err e) = refusal (number e)
-said (Ok Std.None) = success none
-said (Ok (Std.Some b)) = success (some b)
+said = said_by number
 
 -- what a call says, with the directory's state and stores after it
 pub record Outcome : Type 0 where
@@ -31,8 +34,11 @@ pub record Outcome : Type 0 where
   pub kept : Kept
 
 -- as a contract writes it: what a call replied, with the stores that it left
-abbrev pub gave : Reply → Stores → Outcome
-gave r s = record { answer = said r.answer; kept = kept r.dir s }
+abbrev pub gave_by : {E : Type 0} → (E → ℕ) → Reply E → Stores → Outcome
+gave_by number_of r s = record { answer = said_by number_of r.answer; kept = kept r.dir s }
+
+abbrev pub gave : Reply Refusal → Stores → Outcome
+gave = gave_by number
 
 -- what is said, as the abstract map's answer
 abbrev pub map_answer : (K : Map.Kind) → Said (Option ℕ) → Map.Answer K

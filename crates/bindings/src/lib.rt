@@ -13,10 +13,11 @@ ghost use Rattle.directory.specs.View.{stores};
 use directory::Directory;
 use refusals::Refusal;
 
-// What a call answers, and the directory after it, which a refusal leaves as it was. answer: done, or a bound handle.
+// What a call answers, and the directory after it, which a refusal leaves as it was. answer: done, or a bound handle; or what refused it, of
+// whatever type says so.
 #[derive(Clone, Copy)]
-pub struct Reply {
-    pub answer: Result<Option<u64>, Refusal>,
+pub struct Reply<E = Refusal> {
+    pub answer: Result<Option<u64>, E>,
     pub dir: Directory,
 }
 

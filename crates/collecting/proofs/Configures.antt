@@ -10,12 +10,13 @@ use Rattle.directory.specs.View.{Stores}
 use Rattle.directory.specs.declared.Directory.{Directory}
 use Rattle.bindings.specs.Calls as Bindings
 use Rattle.bindings.specs.declared.Reply.{Reply}
+use Rattle.refusals.specs.declared.Refusal.{Refusal}
 use Rattle.value_map.specs.Store.{Store}
 use Rattle.value_map.specs.Calls.{Outcome, gave, started}
 use Rattle.value_map.proofs.Cases.{refusal-no-success}
 use Rattle.collecting.specs.Configured.{configuring, set_up, configured_as}
 
-pub configured-is : {K : Kind} (S : Store K) {T : Type 0} (t : Directory → T) (limit : ℕ) (filter : Option (List ℕ)) (s : Stores) (c : S.Cells) (b : Reply) (after : Stores) (a : Said T)
+pub configured-is : {K : Kind} (S : Store K) {T : Type 0} (t : Directory → T) (limit : ℕ) (filter : Option (List ℕ)) (s : Stores) (c : S.Cells) (b : Reply Refusal) (after : Stores) (a : Said T)
     → gave b after c ≡ started S limit filter s c → a ≡ set_up (t b.dir) (Bindings.said b.answer) → configuring a after ≡ configured_as S t limit filter s c
 configured-is S t limit filter s c b after a e q =
     (λ i. record { answer = q i; stores = after })

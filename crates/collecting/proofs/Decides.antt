@@ -15,7 +15,8 @@ use Rattle.listing.specs.Listed.{Output}
 use Rattle.listing.specs.Inner.{Put}
 use Rattle.collecting.specs.Lister.{Lister}
 use Rattle.collecting.specs.Collected.{due_of, uncollected}
-use Rattle.collecting.specs.Slots.{Survey, unsurveyed, surveyed_by, walked, Walk, surveyed, Listable, put_slots, listed_to}
+use Rattle.collecting.specs.Slots.{unsurveyed, surveyed_by, walked, Walk, surveyed, Listable, put_slots, listed_to}
+use Rattle.collecting.specs.declared.Survey.{Survey}
 use Rattle.collecting.proofs.Numbers.{or_else}
 use Rattle.collecting.proofs.Surveys.{survey-walked}
 use Rattle.collecting.proofs.Puts.{room-walked, put-walked}

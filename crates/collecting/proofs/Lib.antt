@@ -9,6 +9,7 @@ pub mod Surveys
 pub mod Puts
 pub mod Walks
 pub mod Turns
+pub mod Summed
 pub mod Loops
 pub mod Ends
 pub mod Decides

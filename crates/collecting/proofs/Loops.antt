@@ -5,6 +5,7 @@ use mathlib.Core.Bool.{Bool, true, false, not, ◌||◌}
 use mathlib.Core.List.{List, ◌∷◌}
 use native.Mathlib.Omega.{arith}
 use lib.ListN.{length, get_or, take}
+use Rattle.std.specs.Prelude.{Some, None}
 use Rattle.laws.specs.Lists.{only}
 use Rattle.laws.specs.Pick.{pick}
 use Rattle.laws.proofs.Cases.{true-not-false}
@@ -19,11 +20,14 @@ use Rattle.listing.specs.Inner.{Put, left}
 use Rattle.listing.specs.declared.Cursor.{Cursor}
 use Rattle.collecting.specs.Lister.{Lister}
 use Rattle.collecting.specs.Collected.{slots_of, due}
-use Rattle.collecting.specs.Slots.{Survey, unsound, one_more, Walk, AllKnown, Few, More, surveyed_at, surveyed, Sound, Free, Listable, put_slot, listed_to}
+use Rattle.collecting.specs.Slots.{unsound, sound_of, one_more, Walk, AllKnown, Few, More, surveyed_at, surveyed, Sound, Free, Listable, put_slot, listed_to}
+use Rattle.collecting.specs.declared.Sums.{Sums}
+use Rattle.collecting.specs.declared.Survey.{Survey}
 use Rattle.collecting.proofs.Nexts.{slot_is, slot-most}
 use Rattle.collecting.proofs.Surveys.{agree_at}
 use Rattle.collecting.proofs.Puts.{laid-long, fit-first}
 use Rattle.collecting.proofs.Turns.{Seen, seen-slot, seen-updated, Surveying, surveying-start, surveying-next, surveying-stop, surveying-end}
+use Rattle.collecting.proofs.Summed.{sums-are, none-unsound}
 use Rattle.collecting.proofs.Turns.{Putting, putting-start, putting-end, putting-room, putting-next}
 
 -- a survey that is not sound says nothing else
@@ -93,6 +97,20 @@ module _ {K : Kind} {S : Store K} (L : Lister S) (w : S.Switches) (cumulative : 
         ∙ unsound-is (not u || K.agrees (S.settings w) (S.at h.cells x)) d s (length (L.pos h.cells x u)) (length (L.neg h.cells x u))
         (ap (λ (v : Survey). v.sound) k.is.is) (ap (λ (v : Survey). v.sound) (sym e) ∙ o)
         ∙ surveying-stop L w cumulative h i x u d f s t k.is e o
+
+  -- the same of code that keeps the sums: the survey a of the first i slots, made of them, the survey t with a slot more, and what t says its sums are
+  module _ (i x : ℕ) (u d : Bool) (f : Seen L w cumulative h i x u d) (s a t : Survey) (k : Surveyed i s) (z : a ≡ s) (e : t ≡ surveyed_at L w u d h.cells a x) where
+    turned : t ≡ surveyed_at L w u d h.cells s x
+    turned = e ∙ ap (λ (v : Survey). surveyed_at L w u d h.cells v x) z
+
+    pub sums-next : (q : Sums) → (t.sound ≡ true → sound_of q ≡ t) → (t.sound ≡ false → Some q ≡ None) → More a t → Surveyed (i + 1) (sound_of q)
+    sums-next q g n m =
+        let y = sums-are t q g n in
+        survey-next i x u d f s (sound_of q) k (y ∙ turned) refl
+        (subst (λ (v : Survey). More v (sound_of q)) z (subst (λ (v : Survey). More a v) (sym y) m))
+
+    pub sums-stop : (t.sound ≡ true → unsound ≡ t) → unsound ≡ surveyed L w cumulative h
+    sums-stop g = surveying-stop L w cumulative h i x u d f s t k.is turned (none-unsound t g)
 
   pub survey-end : (i : ℕ) (s : Survey) → Surveyed i s → h.kept.dir.used < i → s ≡ surveyed L w cumulative h
   survey-end i s k l = surveying-end L w cumulative h i s l k.most k.is

@@ -4,27 +4,26 @@ use mathlib.Core.Path.{◌≡◌, refl, sym, ◌∙◌}
 use mathlib.Core.Bool.{Bool, true, false, ◌&&◌, and-false}
 use borrow.Author.Tests.{eq-eqb, ne_eqb, le-leb, lt-leb}
 use lib.Dec.{leb, eqb}
-use Rattle.std.specs.Prelude.{is_err}
-use Rattle.std.specs.Prelude.{Result, Ok, Err}
+use Rattle.std.specs.Prelude.{◌≢◌, Result, Ok, Err, is_err}
 use Rattle.laws.specs.Pick.{pick}
 use Rattle.laws.proofs.Cases.{true-not-false}
-use Rattle.refusals.specs.declared.Refusal.{Refusal}
-use Rattle.refusals.specs.Refusals.{code}
-use Rattle.refusals.proofs.Numbers.{number-nonzero}
+use Rattle.numbered.specs.Numbered.{code_by}
 use Rattle.directory.specs.View.{Stores, agreesb}
 use Rattle.directory.specs.Calls.{most_sets, stores_suffice}
 use Rattle.directory.specs.declared.Directory.{Directory}
 use Rattle.seats.proofs.Least.{both_suffice}
-use Rattle.collecting.specs.Slots.{Survey, unsurveyed, surveyed_by}
+use Rattle.collecting.specs.Slots.{unsurveyed, surveyed_by}
+use Rattle.collecting.specs.declared.Survey.{Survey}
 
 -- an answer that refuses has a number
-pub refused : {A : Type 0} → (r : Result A Refusal) → is_err r ≡ true → code r ≡ 0 → ⊥
-refused (Ok a) e = true-not-false (sym e)
-refused (Err n) e = number-nonzero n
+module _ {A E : Type 0} (number_of : E → ℕ) where
+  pub refused : ((e : E) → number_of e ≢ 0) → (r : Result A E) → is_err r ≡ true → code_by number_of r ≡ 0 → ⊥
+  refused f (Ok a) e = true-not-false (sym e)
+  refused f (Err x) e = f x
 
-pub accepted : {A : Type 0} → (r : Result A Refusal) → is_err r ≡ false → code r ≡ 0
-accepted (Ok a) e = refl
-accepted (Err n) e = true-not-false e
+  pub accepted : (r : Result A E) → is_err r ≡ false → code_by number_of r ≡ 0
+  accepted (Ok a) e = refl
+  accepted (Err x) e = true-not-false e
 
 -- the number of the call: what comes before the survey comes first
 unfoldable pub or_else : ℕ → ℕ → ℕ

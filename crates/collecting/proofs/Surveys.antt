@@ -17,7 +17,8 @@ use Rattle.value_map.specs.Store.{Store}
 use Rattle.value_map.specs.Calls.{Held}
 use Rattle.collecting.specs.Lister.{Lister}
 use Rattle.collecting.specs.Collected.{slots_of, due, due_of, counts_of, agreeing}
-use Rattle.collecting.specs.Slots.{Survey, unsound, one_more, walked, surveyed_at, counted, surveyed}
+use Rattle.collecting.specs.Slots.{unsound, one_more, walked, surveyed_at, counted, surveyed}
+use Rattle.collecting.specs.declared.Survey.{Survey}
 use Rattle.collecting.proofs.Nexts.{slots_length, slots-all, only_yes, only_no, all-next, all-stop}
 
 sound-test : (b d : Bool) (s : Survey) (p n : ℕ) → s.sound ≡ true → (pick b (pick d (one_more s p n) s) unsound).sound ≡ b

@@ -19,7 +19,8 @@ use Rattle.listing.specs.Listed.{Output}
 use Rattle.listing.specs.Inner.{Put, left}
 use Rattle.collecting.specs.Lister.{Lister}
 use Rattle.collecting.specs.Collected.{room_of, slots_of, due, due_of, roomy}
-use Rattle.collecting.specs.Slots.{Survey, unsound, Place, surveyed_at, counted, surveyed, put_slot, put_slots}
+use Rattle.collecting.specs.Slots.{unsound, Place, surveyed_at, counted, surveyed, put_slot, put_slots}
+use Rattle.collecting.specs.declared.Survey.{Survey}
 use Rattle.collecting.proofs.Nexts.{slot_is}
 use Rattle.collecting.proofs.Surveys.{agreed, survey-turn, agree-turn, survey-none, turn-sound, turn-unsound, survey-all}
 use Rattle.collecting.proofs.Puts.{put-none, put-room, put-turn, put_all}

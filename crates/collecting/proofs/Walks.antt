@@ -24,7 +24,8 @@ use Rattle.value_map.proofs.Owed.{Owed}
 use Rattle.listing.specs.Listed.{Output}
 use Rattle.collecting.specs.Lister.{Lister}
 use Rattle.collecting.specs.Collected.{slots_of, agreeing, roomy, uncollected}
-use Rattle.collecting.specs.Slots.{Survey, unsurveyed, unsound, surveyed_by, walked, Walk, counted, surveyed}
+use Rattle.collecting.specs.Slots.{unsurveyed, unsound, surveyed_by, walked, Walk, counted, surveyed}
+use Rattle.collecting.specs.declared.Survey.{Survey}
 use Rattle.collecting.proofs.Numbers.{or_else}
 
 -- ---- the number that refuses

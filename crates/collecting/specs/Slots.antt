@@ -18,15 +18,9 @@ use Rattle.listing.specs.Inner.{Put, left}
 use Rattle.collecting.specs.Lister.{Lister}
 use Rattle.collecting.specs.Collected.{room_of, slots_of, due, due_of, counts_of, agreeing, laid_out, roomy}
 use Rattle.collecting.specs.declared.Sums.{Sums}
+use Rattle.collecting.specs.declared.Survey.{Survey}
 
 -- ---- deciding by reading
-
--- what the slots are found to be: whether each series that is held agrees; then how many points are due, and how many counts they have in either store
-pub record Survey : Type 0 where
-  pub sound : Bool
-  pub points : ℕ
-  pub pos : ℕ
-  pub neg : ℕ
 
 -- "12, 8", before any series is read: of the kind's cells, which suffice or not, and of the number with which configuring refuses its settings
 unfoldable pub unsurveyed : Bool → ℕ → ℕ → Directory → Stores → ℕ

@@ -1,14 +1,16 @@
 // What every kind's collecting calls share: `collect_and_reset` and `collect_readonly` of internal/mod.rs, but for the series.
 #![tactic(auto)]
 
-ghost use Rattle.std.specs.Prelude.{◌≡◌, true, not, ◌&&◌, ◌||◌, [], ◌∷◌, ◌<◌, ◌≤◌, eqb, ltb, length, get_or};
+ghost use Rattle.std.specs.Prelude.{◌≡◌, true, false, None, not, ◌&&◌, ◌||◌, [], ◌∷◌, ◌<◌, ◌≤◌, eqb, ltb, length, get_or};
 ghost use Rattle.laws.specs.Pick.{pick};
 ghost use Rattle.sets.specs.Rows.{size, set_of, row_of};
 ghost use Rattle.directory.specs.View.{set_at, stores};
 ghost use Rattle.refusals.specs.Refusals.{code};
-ghost use Rattle.collecting.specs.Slots.{unsurveyed, survey_of, surveyed_by};
+ghost use Rattle.numbered.specs.Numbered.{code_by};
+ghost use Rattle.collecting.specs.Slots.{unsurveyed, sound_of, survey_of, surveyed_by};
 
 use directory::Directory;
+use numbered::Reason;
 use refusals::Refusal;
 
 // What a collection says, how many points lie in the output or why there are none; and the directory's state after it.
@@ -27,20 +29,74 @@ pub struct Sums {
     pub neg: usize,
 }
 
+// What the slots are found to be: whether each series that is held agrees; then how many points are due, and how many counts they have in
+// either store.
+#[derive(Clone, Copy)]
+pub struct Survey {
+    pub sound: bool,
+    pub points: usize,
+    pub pos: usize,
+    pub neg: usize,
+}
+
+impl Survey {
+    // The survey of slots whose series agree.
+    pub fn of(s: Sums) -> Survey
+        ensures { result ≡ sound_of s }
+    {
+        Survey {
+            sound: true,
+            points: s.points,
+            pos: s.pos,
+            neg: s.neg,
+        }
+    }
+
+    // The survey of slots by what was found there: none where a series disagrees.
+    pub fn found(found: Option<Sums>) -> Survey
+        ensures { result ≡ survey_of found }
+    {
+        match found {
+            None => Survey {
+                sound: false,
+                points: 0,
+                pos: 0,
+                neg: 0,
+            },
+            Some(s) => Survey::of(s),
+        }
+    }
+
+    // What its slots take in the output; none where a series disagrees.
+    pub fn sums(self) -> Option<Sums>
+        ensures sound { self.sound ≡ true → survey_of result ≡ self }
+        ensures unsound { self.sound ≡ false → result ≡ None }
+    {
+        if !self.sound {
+            return None;
+        }
+        Some(Sums {
+            points: self.points,
+            pos: self.pos,
+            neg: self.neg,
+        })
+    }
+}
+
 // What refuses a collection before any series is read: 12, 8. Of the kind: whether its cells suffice, and what configuring says of its
-// settings. Nothing is asked where it is known that nothing does.
-pub fn barred(
+// settings, with any number but 0 where it refuses them. Nothing is asked where it is known that nothing does.
+pub fn barred<E: Reason>(
     known: bool,
     cells: bool,
-    unset: Result<(), Refusal>,
+    unset: Result<(), E>,
     limit: u64,
     d: Directory,
     sets: &[[u64; 9]],
     entries: &[[u64; 3]],
     order: &[u32],
 ) -> Result<(), Refusal>
-    requires { known ≡ true → unsurveyed cells (code unset) limit d (stores sets.now entries.now order.now) ≡ 0 }
-    ensures { code result ≡ unsurveyed cells (code unset) limit d (stores sets.now entries.now order.now) }
+    requires { known ≡ true → unsurveyed cells (code_by E.number unset) limit d (stores sets.now entries.now order.now) ≡ 0 }
+    ensures { code result ≡ unsurveyed cells (code_by E.number unset) limit d (stores sets.now entries.now order.now) }
 {
     if known {
         return Ok(());
@@ -63,19 +119,19 @@ pub fn barred(
     Ok(())
 }
 
-// What refuses it then, by what a survey of the slots found, none where a series disagrees, in output of so many places: 8, 10.
+// What refuses it then, by what a survey of the slots found, in output of so many places: 8, 10.
 pub fn number_of(
-    found: Option<Sums>,
+    s: Survey,
     sets: usize,
     words: usize,
     pos: usize,
     neg: usize,
 ) -> Result<(), Refusal>
-    ensures { code result ≡ surveyed_by (survey_of found) sets words pos neg }
+    ensures { code result ≡ surveyed_by s sets words pos neg }
 {
-    let Some(s) = found else {
+    if !s.sound {
         return Err(Refusal::Disagrees);
-    };
+    }
     if s.points > sets {
         return Err(Refusal::NoRoom);
     }

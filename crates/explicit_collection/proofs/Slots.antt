@@ -35,7 +35,8 @@ use Rattle.listing.specs.Inner as ListedInner
 use Rattle.listing.specs.Words.{words_of}
 use Rattle.listing.specs.declared.Cursor.{Cursor}
 use Rattle.collecting.specs.Lister.{Lister}
-use Rattle.collecting.specs.Slots.{Survey, unsound, one_more, Place, surveyed_at, laid_at, behind_at, put_slot}
+use Rattle.collecting.specs.Slots.{unsound, one_more, Place, surveyed_at, laid_at, behind_at, put_slot}
+use Rattle.collecting.specs.declared.Survey.{Survey}
 use Rattle.collecting.specs.Read.{span_of}
 use Rattle.explicit_collection.specs.Ready.{row_put, point_put}
 

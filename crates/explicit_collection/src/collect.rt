@@ -12,7 +12,7 @@ ghost use Rattle.collecting.specs.Collected.{gave, uncollected, delta_collected,
 ghost use Rattle.explicit_collection.specs.Points.{explicit_lister};
 
 use crate::Settings;
-use collecting::Reply;
+use collecting::{Reply, Survey};
 use directory::Directory;
 use refusals::Refusal;
 
@@ -54,7 +54,7 @@ fn number(
         known, cumulative, bounds, d.used, entries, order, totals, extremes, counts,
     );
     collecting::number_of(
-        found,
+        Survey::found(found),
         out_sets.len(),
         out_words.len(),
         out_pos.len(),

@@ -9,6 +9,7 @@ mod walk;
 ghost use Rattle.std.specs.Prelude.{◌≡◌};
 ghost use Rattle.std.proofs.Math.Option.{none};
 ghost use Rattle.refusals.specs.Refusals.{said};
+ghost use Rattle.numbered.specs.Numbered.{said_by};
 ghost use Rattle.sets.specs.Sorted.{filter_of};
 ghost use Rattle.directory.specs.View.{stores};
 ghost use Rattle.bindings.specs.Calls as Bindings;
@@ -24,6 +25,7 @@ ghost use Rattle.explicit_collection.specs.Configured.{configured};
 
 use collecting::Reply;
 use directory::Directory;
+use numbered::Numbered;
 use refusals::Refusal;
 
 // What was configured: the two switches and the cardinality limit; the bounds are lent at every call.
@@ -42,8 +44,8 @@ pub struct Setup {
 }
 
 // What configuring says by what the start of the map replied.
-pub fn set_up(settings: Settings, reply: bindings::Reply) -> Result<Setup, Refusal>
-    ensures { said result ≡ set_up (record { settings = settings; dir = reply.dir }) (Bindings.said reply.answer) }
+pub fn set_up<E: Numbered>(settings: Settings, reply: bindings::Reply<E>) -> Result<Setup, E>
+    ensures { said_by E.number result ≡ set_up (record { settings = settings; dir = reply.dir }) (Bindings.said_by E.number reply.answer) }
 {
     reply.answer?;
     Ok(Setup {

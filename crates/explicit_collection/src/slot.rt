@@ -9,11 +9,11 @@ ghost use Rattle.value_map.specs.Explicit.{explicit_store};
 ghost use Rattle.batches.specs.Inner.{Known};
 ghost use Rattle.listing.specs.Listed.{output};
 ghost use Rattle.listing.specs.Inner.{left};
-ghost use Rattle.collecting.specs.Slots.{one_more, sound_of, survey_of, Few, More, Place, surveyed_at, Sound, Free, put_slot};
+ghost use Rattle.collecting.specs.Slots.{one_more, Few, More, Place, surveyed_at, Sound, Free, put_slot};
 ghost use Rattle.explicit_collection.specs.Points.{explicit_lister};
 ghost use Rattle.explicit_collection.specs.Ready.{point_put};
 
-use collecting::Sums;
+use collecting::Survey;
 use explicit::Head;
 use listing::{Cursor, Span};
 
@@ -56,11 +56,12 @@ fn agrees_at(
 }
 
 // A survey with a point of n counts more.
-pub fn one_more(s: Sums, n: usize) -> Sums
-    requires { Few (sound_of s) × (n ≤ 160) }
-    ensures { sound_of result ≡ one_more (sound_of s) n 0 }
+pub fn one_more(s: Survey, n: usize) -> Survey
+    requires { Few s × (n ≤ 160) }
+    ensures { result ≡ one_more s n 0 }
 {
-    Sums {
+    Survey {
+        sound: true,
         points: s.points + 1,
         pos: s.pos + n,
         neg: s.neg,
@@ -91,31 +92,36 @@ fn sound_at(
     agrees_at(bounds, x, totals, extremes, counts)
 }
 
-// The survey with slot x more, which was updated or not and is due or not; none where its series disagrees.
+// The survey with slot x more, which was updated or not and is due or not.
 pub fn survey(
     known: bool,
     bounds: &[f64],
-    s: Sums,
+    s: Survey,
     x: usize,
     updated: bool,
     due: bool,
     totals: &[u64],
     extremes: &[[f64; 3]],
     counts: &[u64],
-) -> Option<Sums>
+) -> Survey
     requires bounds_value { (bounds_pass bounds.now ≡ true) × Room bounds.now (cells totals.now extremes.now counts.now) x }
-    requires few { Few (sound_of s) × Known (explicit_store bounds.now) (true, true) known x updated (cells totals.now extremes.now counts.now) }
-    ensures value { survey_of result ≡ surveyed_at (explicit_lister bounds.now) (true, true) updated due
-        (cells totals.now extremes.now counts.now) (sound_of s) x }
-    ensures more { More (sound_of s) (survey_of result) }
+    requires few { Few s × Known (explicit_store bounds.now) (true, true) known x updated (cells totals.now extremes.now counts.now) }
+    ensures value { result ≡ surveyed_at (explicit_lister bounds.now) (true, true) updated due
+        (cells totals.now extremes.now counts.now) s x }
+    ensures more { More s result }
 {
     if !sound_at(known, bounds, x, updated, totals, extremes, counts) {
-        return None;
+        return Survey {
+            sound: false,
+            points: 0,
+            pos: 0,
+            neg: 0,
+        };
     }
     if !due {
-        return Some(s);
+        return s;
     }
-    Some(one_more(s, explicit::bucket_count(bounds)))
+    one_more(s, explicit::bucket_count(bounds))
 }
 
 // Puts the point of a head at the cursor, with its row of counts; the next cursor.

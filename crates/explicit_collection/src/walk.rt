@@ -7,7 +7,7 @@ ghost use Rattle.listing.specs.Inner.{left};
 ghost use Rattle.collecting.specs.Slots.{walked, Walk, AllKnown, survey_of, surveyed, Listable, listed_to};
 ghost use Rattle.explicit_collection.specs.Points.{explicit_lister};
 
-use collecting::Sums;
+use collecting::{Sums, Survey};
 use listing::Cursor;
 
 // What the slots are found to be; none where a series that is held disagrees.
@@ -37,9 +37,11 @@ pub fn survey(
         let x = collecting::slot_at(order, i);
         let updated = directory::is_updated(entries, x);
         let due = collecting::is_due(cumulative, updated, x);
-        found = crate::slot::survey(
-            known, bounds, found, x, updated, due, totals, extremes, counts,
-        )?;
+        let so_far = Survey::of(found);
+        let next = crate::slot::survey(
+            known, bounds, so_far, x, updated, due, totals, extremes, counts,
+        );
+        found = next.sums()?;
     }
     Some(found)
 }

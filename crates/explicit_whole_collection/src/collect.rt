@@ -11,7 +11,7 @@ ghost use Rattle.listing.specs.Listed.{output};
 ghost use Rattle.collecting.specs.Collected.{gave, uncollected, delta_collected, cumulative_collected};
 ghost use Rattle.explicit_whole_collection.specs.Points.{explicit_whole_lister};
 
-use collecting::Reply;
+use collecting::{Reply, Survey};
 use directory::Directory;
 use explicit_collection::Settings;
 use refusals::Refusal;
@@ -54,7 +54,7 @@ fn number(
         known, cumulative, bounds, d.used, entries, order, totals, counts,
     );
     collecting::number_of(
-        found,
+        Survey::found(found),
         out_sets.len(),
         out_words.len(),
         out_pos.len(),

@@ -9,11 +9,11 @@ ghost use Rattle.batches.specs.Inner.{Known};
 ghost use Rattle.whole_map.specs.Explicit.{explicit_wholes};
 ghost use Rattle.listing.specs.Listed.{output};
 ghost use Rattle.listing.specs.Inner.{left};
-ghost use Rattle.collecting.specs.Slots.{sound_of, survey_of, Few, More, Place, surveyed_at, Sound, Free, put_slot};
+ghost use Rattle.collecting.specs.Slots.{Few, More, Place, surveyed_at, Sound, Free, put_slot};
 ghost use Rattle.explicit_whole_collection.specs.Points.{explicit_whole_lister};
 ghost use Rattle.explicit_whole_collection.specs.Ready.{counting, point_put};
 
-use collecting::Sums;
+use collecting::Survey;
 use explicit_wholes::Head;
 use listing::{Cursor, Span};
 
@@ -57,30 +57,35 @@ fn sound_at(
     explicit::buckets_agree(bounds, totals[x], &counts[a..e])
 }
 
-// The survey with slot x more, which was updated or not and is due or not; none where its series disagrees.
+// The survey with slot x more, which was updated or not and is due or not.
 pub fn survey(
     known: bool,
     bounds: &[f64],
-    s: Sums,
+    s: Survey,
     x: usize,
     updated: bool,
     due: bool,
     totals: &[u64],
     counts: &[u64],
-) -> Option<Sums>
+) -> Survey
     requires bounds_value { (bounds_pass bounds.now ≡ true) × Room bounds.now (counting totals.now counts.now) x }
-    requires few { Few (sound_of s) × Known (explicit_wholes bounds.now true) true known x updated (counting totals.now counts.now) }
-    ensures value { survey_of result ≡ surveyed_at (explicit_whole_lister bounds.now true) true updated due
-        (counting totals.now counts.now) (sound_of s) x }
-    ensures more { More (sound_of s) (survey_of result) }
+    requires few { Few s × Known (explicit_wholes bounds.now true) true known x updated (counting totals.now counts.now) }
+    ensures value { result ≡ surveyed_at (explicit_whole_lister bounds.now true) true updated due
+        (counting totals.now counts.now) s x }
+    ensures more { More s result }
 {
     if !sound_at(known, bounds, x, updated, totals, counts) {
-        return None;
+        return Survey {
+            sound: false,
+            points: 0,
+            pos: 0,
+            neg: 0,
+        };
     }
     if !due {
-        return Some(s);
+        return s;
     }
-    Some(explicit_collection::slot::one_more(s, explicit::bucket_count(bounds)))
+    explicit_collection::slot::one_more(s, explicit::bucket_count(bounds))
 }
 
 // Puts the point of a head at the cursor, with its row of counts; the next cursor.

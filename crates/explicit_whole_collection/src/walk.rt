@@ -8,7 +8,7 @@ ghost use Rattle.collecting.specs.Slots.{walked, Walk, AllKnown, survey_of, surv
 ghost use Rattle.explicit_whole_collection.specs.Points.{explicit_whole_lister};
 ghost use Rattle.explicit_whole_collection.specs.Ready.{counting};
 
-use collecting::Sums;
+use collecting::{Sums, Survey};
 use listing::Cursor;
 
 // What the slots are found to be. Neither the sum's switch nor the extremes have a part in it.
@@ -37,7 +37,9 @@ pub fn survey(
         let x = collecting::slot_at(order, i);
         let updated = directory::is_updated(entries, x);
         let due = collecting::is_due(cumulative, updated, x);
-        found = crate::slot::survey(known, bounds, found, x, updated, due, totals, counts)?;
+        let so_far = Survey::of(found);
+        let next = crate::slot::survey(known, bounds, so_far, x, updated, due, totals, counts);
+        found = next.sums()?;
     }
     Some(found)
 }

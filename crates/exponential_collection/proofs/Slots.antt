@@ -25,7 +25,8 @@ use Rattle.listing.specs.Listed.{Output, behind, put_at}
 use Rattle.listing.specs.Inner.{left}
 use Rattle.listing.specs.declared.Cursor.{Cursor}
 use Rattle.collecting.specs.Lister.{Lister}
-use Rattle.collecting.specs.Slots.{Survey, unsound, one_more, surveyed_at, Free, laid_at, behind_at, put_slot}
+use Rattle.collecting.specs.Slots.{unsound, one_more, surveyed_at, Free, laid_at, behind_at, put_slot}
+use Rattle.collecting.specs.declared.Survey.{Survey}
 use Rattle.collecting.specs.Read.{span_of}
 use Rattle.point.specs.Handing.{exponential_point}
 use Rattle.point.specs.declared.Point.{Point}

@@ -12,7 +12,7 @@ ghost use Rattle.collecting.specs.Collected.{gave, uncollected, delta_collected,
 ghost use Rattle.exponential_collection.specs.Points.{exponential_lister};
 
 use crate::Settings;
-use collecting::Reply;
+use collecting::{Reply, Survey};
 use directory::Directory;
 use refusals::Refusal;
 
@@ -56,7 +56,7 @@ fn number(
         known, cumulative, s, d.used, entries, order, figures, extremes, pos, neg,
     );
     collecting::number_of(
-        found,
+        Survey::found(found),
         out_sets.len(),
         out_words.len(),
         out_pos.len(),

@@ -9,6 +9,7 @@ mod walk;
 ghost use Rattle.std.specs.Prelude.{◌≡◌};
 ghost use Rattle.std.proofs.Math.Option.{none};
 ghost use Rattle.refusals.specs.Refusals.{said};
+ghost use Rattle.numbered.specs.Numbered.{said_by};
 ghost use Rattle.sets.specs.Sorted.{filter_of};
 ghost use Rattle.directory.specs.View.{stores};
 ghost use Rattle.bindings.specs.Calls as bindings-calls;
@@ -24,6 +25,7 @@ ghost use Rattle.exponential_collection.specs.Configured.{level_or, configured};
 
 use collecting::Reply;
 use directory::Directory;
+use numbered::Numbered;
 use refusals::Refusal;
 
 // What was configured: max_size, the greatest level, the two switches, the cardinality limit.
@@ -54,8 +56,8 @@ pub fn level_or(found: Option<u32>) -> u32
 }
 
 // What configuring says by what the start said: a refusal hands out no state.
-pub fn set_up(z: Settings, r: bindings::Reply) -> Result<Setup, Refusal>
-    ensures { said result ≡ set_up (record { settings = z; dir = r.dir }) (bindings-calls.said r.answer) }
+pub fn set_up<E: Numbered>(z: Settings, r: bindings::Reply<E>) -> Result<Setup, E>
+    ensures { said_by E.number result ≡ set_up (record { settings = z; dir = r.dir }) (bindings-calls.said_by E.number r.answer) }
 {
     r.answer?;
     Ok(Setup {

@@ -8,10 +8,10 @@ ghost use Rattle.value_map.specs.Exponential.{unset, exponential_store};
 ghost use Rattle.batches.specs.Inner.{Known};
 ghost use Rattle.listing.specs.Listed.{output};
 ghost use Rattle.listing.specs.Inner.{left};
-ghost use Rattle.collecting.specs.Slots.{one_more, sound_of, survey_of, Few, More, surveyed_at, Sound, Free, put_slot};
+ghost use Rattle.collecting.specs.Slots.{one_more, Few, More, surveyed_at, Sound, Free, put_slot};
 ghost use Rattle.exponential_collection.specs.Points.{exponential_lister};
 
-use collecting::Sums;
+use collecting::Survey;
 use listing::Cursor;
 
 // Whether the series of slot x agrees: its words are a head, and head and rows agree.
@@ -73,31 +73,33 @@ fn is_sound(
 }
 
 // The survey with a point more: that of a slot's words, or a fresh one, which has no counts.
-pub fn counted(s: Sums, updated: bool, f: [u64; 8]) -> Sums
-    requires few { Few (sound_of s) }
+pub fn counted(s: Survey, updated: bool, f: [u64; 8]) -> Survey
+    requires few { Few s }
     requires f_bound { updated ≡ true → (get_or f 4 0 ≤ 160) × (get_or f 6 0 ≤ 160) }
-    ensures { sound_of result ≡ one_more (sound_of s) (pick updated (get_or f 4 0) 0) (pick updated (get_or f 6 0) 0) }
+    ensures { result ≡ one_more s (pick updated (get_or f 4 0) 0) (pick updated (get_or f 6 0) 0) }
 {
     if updated {
-        return Sums {
+        return Survey {
+            sound: true,
             points: s.points + 1,
             pos: s.pos + f[4] as usize,
             neg: s.neg + f[6] as usize,
         };
     }
-    Sums {
+    Survey {
+        sound: true,
         points: s.points + 1,
         pos: s.pos,
         neg: s.neg,
     }
 }
 
-// The survey with slot x more, which was updated or not and is due or not; none where its series disagrees.
+// The survey with slot x more, which was updated or not and is due or not.
 pub fn survey(
     known: bool,
     size: u32,
     top: u32,
-    s: Sums,
+    s: Survey,
     x: usize,
     updated: bool,
     due: bool,
@@ -105,20 +107,25 @@ pub fn survey(
     extremes: &[[f64; 3]],
     pos: &[u64],
     neg: &[u64],
-) -> Option<Sums>
+) -> Survey
     requires top_value { (unset size top ≡ 0) × Room size (cells figures.now extremes.now pos.now neg.now) x }
-    requires few { Few (sound_of s) × Known (exponential_store size top) (true, true) known x updated (cells figures.now extremes.now pos.now neg.now) }
-    ensures value { survey_of result ≡ surveyed_at (exponential_lister size top) (true, true) updated due
-        (cells figures.now extremes.now pos.now neg.now) (sound_of s) x }
-    ensures more { More (sound_of s) (survey_of result) }
+    requires few { Few s × Known (exponential_store size top) (true, true) known x updated (cells figures.now extremes.now pos.now neg.now) }
+    ensures value { result ≡ surveyed_at (exponential_lister size top) (true, true) updated due
+        (cells figures.now extremes.now pos.now neg.now) s x }
+    ensures more { More s result }
 {
     if !is_sound(known, size, top, x, updated, figures, extremes, pos, neg) {
-        return None;
+        return Survey {
+            sound: false,
+            points: 0,
+            pos: 0,
+            neg: 0,
+        };
     }
     if !due {
-        return Some(s);
+        return s;
     }
-    Some(counted(s, updated, figures[x]))
+    counted(s, updated, figures[x])
 }
 
 // Puts the point of slot x at the cursor, if it is due; the next cursor.

@@ -8,7 +8,7 @@ ghost use Rattle.collecting.specs.Slots.{walked, Walk, AllKnown, survey_of, surv
 ghost use Rattle.exponential_collection.specs.Points.{exponential_lister};
 
 use crate::Settings;
-use collecting::Sums;
+use collecting::{Sums, Survey};
 use listing::Cursor;
 
 // What the slots are found to be; none where a series that is held disagrees.
@@ -41,9 +41,11 @@ pub fn survey(
         let x = collecting::slot_at(order, i);
         let updated = directory::is_updated(entries, x);
         let due = collecting::is_due(cumulative, updated, x);
-        found = crate::slot::survey(
-            known, size, top, found, x, updated, due, figures, extremes, pos, neg,
-        )?;
+        let so_far = Survey::of(found);
+        let next = crate::slot::survey(
+            known, size, top, so_far, x, updated, due, figures, extremes, pos, neg,
+        );
+        found = next.sums()?;
     }
     Some(found)
 }

@@ -22,7 +22,8 @@ use Rattle.listing.specs.Listed.{Output, behind}
 use Rattle.listing.specs.Inner.{left}
 use Rattle.listing.specs.declared.Cursor.{Cursor}
 use Rattle.collecting.specs.Collected.{roomy, uncollected}
-use Rattle.collecting.specs.Slots.{Survey, one_more, surveyed_at, Free, laid_at, put_slot}
+use Rattle.collecting.specs.Slots.{one_more, surveyed_at, Free, laid_at, put_slot}
+use Rattle.collecting.specs.declared.Survey.{Survey}
 use Rattle.collecting.specs.Read.{span_of}
 use Rattle.exponential_collection.proofs.Counts as Counts
 use Rattle.exponential_collection.proofs.Counts.{without, Laid, holds}

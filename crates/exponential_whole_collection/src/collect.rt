@@ -11,7 +11,7 @@ ghost use Rattle.listing.specs.Listed.{output};
 ghost use Rattle.collecting.specs.Collected.{gave, uncollected, delta_collected, cumulative_collected};
 ghost use Rattle.exponential_whole_collection.specs.Points.{exponential_whole_lister};
 
-use collecting::Reply;
+use collecting::{Reply, Survey};
 use directory::Directory;
 use exponential_collection::Settings;
 use refusals::Refusal;
@@ -56,7 +56,7 @@ fn number(
         known, cumulative, s, d.used, entries, order, figures, extremes, pos, neg,
     );
     collecting::number_of(
-        found,
+        Survey::found(found),
         out_sets.len(),
         out_words.len(),
         out_pos.len(),

@@ -7,10 +7,10 @@ ghost use Rattle.batches.specs.Inner.{Known};
 ghost use Rattle.whole_map.specs.Exponential.{exponential_wholes};
 ghost use Rattle.listing.specs.Listed.{output};
 ghost use Rattle.listing.specs.Inner.{left};
-ghost use Rattle.collecting.specs.Slots.{sound_of, survey_of, Few, More, surveyed_at, Sound, Free, put_slot};
+ghost use Rattle.collecting.specs.Slots.{Few, More, surveyed_at, Sound, Free, put_slot};
 ghost use Rattle.exponential_whole_collection.specs.Points.{exponential_whole_lister};
 
-use collecting::Sums;
+use collecting::Survey;
 use listing::Cursor;
 
 // Whether the series of slot x agrees: its words are a head, and head and rows agree. Of i64s none is out of place.
@@ -65,12 +65,12 @@ fn is_sound(
     true
 }
 
-// The survey with slot x more, which was updated or not and is due or not; none where its series disagrees.
+// The survey with slot x more, which was updated or not and is due or not.
 pub fn survey(
     known: bool,
     size: u32,
     top: u32,
-    s: Sums,
+    s: Survey,
     x: usize,
     updated: bool,
     due: bool,
@@ -78,20 +78,25 @@ pub fn survey(
     extremes: &[[i64; 3]],
     pos: &[u64],
     neg: &[u64],
-) -> Option<Sums>
+) -> Survey
     requires top_value { (unset size top ≡ 0) × Room size (cells figures.now extremes.now pos.now neg.now) x }
-    requires few { Few (sound_of s) × Known (exponential_wholes size top true) true known x updated (cells figures.now extremes.now pos.now neg.now) }
-    ensures value { survey_of result ≡ surveyed_at (exponential_whole_lister size top true) true updated due
-        (cells figures.now extremes.now pos.now neg.now) (sound_of s) x }
-    ensures more { More (sound_of s) (survey_of result) }
+    requires few { Few s × Known (exponential_wholes size top true) true known x updated (cells figures.now extremes.now pos.now neg.now) }
+    ensures value { result ≡ surveyed_at (exponential_whole_lister size top true) true updated due
+        (cells figures.now extremes.now pos.now neg.now) s x }
+    ensures more { More s result }
 {
     if !is_sound(known, size, top, x, updated, figures, extremes, pos, neg) {
-        return None;
+        return Survey {
+            sound: false,
+            points: 0,
+            pos: 0,
+            neg: 0,
+        };
     }
     if !due {
-        return Some(s);
+        return s;
     }
-    Some(exponential_collection::slot::counted(s, updated, figures[x]))
+    exponential_collection::slot::counted(s, updated, figures[x])
 }
 
 // Puts the point of slot x at the cursor, if it is due; the next cursor.

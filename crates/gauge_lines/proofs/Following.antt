@@ -41,7 +41,7 @@ use Rattle.gauge_lines.specs.declared.fields.Board.{Board}
 use Rattle.gauge_lines.specs.declared.fields.Call.{Call}
 use Rattle.gauge_lines.specs.declared.fields.Call.TheVariants as C
 use Rattle.gauge_lines.specs.Lines.{settings_of, board_of, attributes_in, time_of, call_of}
-use Rattle.gauge_lines.specs.Followed.{Outcome, outcome, After, after, taken_with, begun_by, configured_by, started_by, after_start}
+use Rattle.gauge_lines.specs.Followed.{Outcome, outcome, After, after, begun_by, configured_by, started_by, after_start}
 use Rattle.gauge_lines.specs.Followed.{answered_by, measured_by, recorded_by, after_record}
 use Rattle.gauge_lines.specs.Followed.{Followed, collected, turned_by, no_bounds, listed_by, collected_by, after_collect}
 use Rattle.gauge_lines.specs.Followed.{silent_by, by_call, after_call, numbered}
@@ -74,7 +74,7 @@ module _ (g : Gauge) (bs : List ℕ) (s : Stores) (c : Cells) (r : Option Gauge)
       ∙ sym (ap (λ (b : Option Board). recorded_by g b (attributes_in bs (replicate 9 (0 ∷ 0 ∷ []))) s c) e)
 
   pub record-made : (b : Board) → board_of bs ≡ Some b → (v : Float) → v ≡ of_bits binary64 b.bits
-      → (attrs : List (List ℕ)) → attrs ≡ take b.many (attributes_in bs (replicate 9 (0 ∷ 0 ∷ []))) → (k : Reply) (s' : Stores) (c' : Cells)
+      → (attrs : List (List ℕ)) → attrs ≡ take b.many (attributes_in bs (replicate 9 (0 ∷ 0 ∷ []))) → (k : Reply Refusal) (s' : Stores) (c' : Cells)
       → gave k s' c'
       ≡ measured (exponential_store g.settings.size g.settings.top) g.settings.limit none (held g.dir s c) v (given attrs)
       → outcome g r ≡ answered_by g (Bindings.said k.answer) k.dir → after (outcome g r) s' c' ≡ after_record g bs s c

@@ -3,11 +3,11 @@
 
 ghost use Rattle.std.specs.Prelude.{◌≡◌};
 ghost use Rattle.laws.specs.Said.{number};
-ghost use Rattle.bindings.specs.Calls.{said};
+ghost use Rattle.bindings.specs.Calls.{said_by};
 ghost use Rattle.map_words.specs.Words.{state_of, words_of};
 
 use directory::Directory;
-use refusals::Refusal;
+use numbered::Numbered;
 
 // The state of three words: slots used, the map's count, the last birth number spent.
 pub fn state_of(words: [u64; 3]) -> Directory
@@ -28,8 +28,8 @@ pub fn words_of(d: Directory) -> [u64; 3]
 }
 
 // Document 01's number of an answer.
-pub fn number_of(answer: Result<Option<u64>, Refusal>) -> u64
-    ensures { result ≡ number (said answer) }
+pub fn number_of<E: Numbered>(answer: Result<Option<u64>, E>) -> u64
+    ensures { result ≡ number (said_by E.number answer) }
 {
     match answer {
         Err(e) => e.number() as u64,

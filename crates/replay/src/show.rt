@@ -60,8 +60,8 @@ pub fn answer<'a>(
     let letter = s.letter;
     match s.no {
         Err(Fault::Unread) => printing::unread(out, text, n, number),
-        Err(Fault::Refused(no)) => {
-            let no = no.number() as u64;
+        Err(fault) => {
+            let no = fault.number() as u64;
             match letter {
                 b'R' | b'H' => pair(out, text, n, b'a', s.told, no),
                 _ => pair(out, text, n, b'!', number, no),

@@ -11,16 +11,12 @@ use Rattle.value_map.specs.Store.{Store}
 use Rattle.value_map.specs.Calls.{Held, held}
 use Rattle.batches.specs.Batch.{measured_all, measured_all_by}
 use Rattle.replay_state.specs.declared.State.{State}
-use Rattle.replay_state.specs.After.{field, answered, Outcome, accepted, refused}
+use Rattle.replay_state.specs.After.{field, answered, refused}
 use Rattle.replay_state.specs.Bound.{filter_in}
-
--- what a line comes to, by the number of its call
-abbrev pub outcome_of : ℕ → Outcome
-outcome_of n = pick (eqb n 0) accepted (refused n)
 
 -- it tells how many values were taken, with the number that refused the next one and the directory that is left
 abbrev pub batched_in : ℕ → ℕ → Directory → State → State
-batched_in taken n dir s = answered s (outcome_of n) taken dir s.handles s.start s.listed s.collected
+batched_in taken n dir s = answered s (refused n) taken dir s.handles s.start s.listed s.collected
 
 abbrev pub batched : {Cells : Type 0} → State → Many (Held Cells) → State
 batched s m = batched_in m.taken m.no m.left.kept.dir s

@@ -4,12 +4,12 @@
 #![tactic(auto)]
 
 ghost use Rattle.std.specs.Prelude.{◌≡◌, take};
-ghost use Rattle.refusals.specs.Refusals.{code};
-ghost use Rattle.replay_batches.specs.Batched.{outcome_of, batched_in};
+ghost use Rattle.numbered.specs.Numbered.{code_by};
+ghost use Rattle.replay_batches.specs.Batched.{batched_in};
 
 use batches::Batch;
-use refusals::Refusal;
-use replay_state::{Fault, State, within};
+use numbered::Numbered;
+use replay_state::{State, within};
 
 pub mod explicit_lines;
 pub mod exponential_lines;
@@ -38,24 +38,14 @@ pub fn integers_in<'a>(xs: &'a [i64], n: u64) -> &'a [i64]
 
 // ---- the state after such a line
 
-// How a list ended, as what its line comes to.
-fn outcome_of(end: Result<(), Refusal>) -> Result<(), Fault>
-    ensures { result ≡ outcome_of (code end) }
-{
-    match end {
-        Ok(_) => Ok(()),
-        Err(no) => Err(Fault::Refused(no)),
-    }
-}
-
 // It tells how many values were taken, with what refused the next one and the directory that the call left.
-pub fn batched(s: State, reply: Batch) -> State
-    ensures { result ≡ batched_in reply.taken (code reply.end) reply.dir s }
+pub fn batched<E: Numbered>(s: State, reply: Batch<E>) -> State
+    ensures { result ≡ batched_in reply.taken (code_by E.number reply.end) reply.dir s }
 {
     let dir = reply.dir;
-    let no = outcome_of(reply.end);
+    let no = numbered::code(reply.end);
     let mut next = s;
-    next.no = no;
+    next.no = replay_state::outcome(no);
     next.told = reply.taken as u64;
     next.dir = dir;
     next

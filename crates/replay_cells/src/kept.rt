@@ -4,7 +4,7 @@ ghost use Rattle.std.specs.Prelude.{◌≡◌, ◌≤◌};
 use lines::Block;
 use listing::Cursor;
 use refusals::Refusal;
-use replay_state::{Fault, State, after, lent, stores, within};
+use replay_state::{State, after, lent, stores, within};
 use std::io::Stdout;
 
 // A list's first cursor.
@@ -202,7 +202,7 @@ fn merge(
         s, bounds, out_sets, out_words, out_pos, out_neg, &mut sets, &mut words, &mut pos, &mut neg,
     );
     match merged {
-        Err(no) => after::refused(s, Fault::Refused(no)),
+        Err(no) => after::refused(s, no),
         Ok(next) => {
             let p = 66 + within(s.f[1], 7);
             out_sets[p] = sets[0];

@@ -6,20 +6,20 @@
 #![tactic(auto)]
 
 ghost use Rattle.std.specs.Prelude.{◌≡◌};
-ghost use Rattle.refusals.specs.Refusals.{said};
+ghost use Rattle.numbered.specs.Numbered.{said_by};
 ghost use Rattle.replay_state.specs.Bound.{lent_stores, given_in};
 ghost use Rattle.replay_explicit.specs.Followed.{cells_in, configured_by};
 ghost use Rattle.replay_explicit.specs.Followed.{after_configured, after_measured, after_measured_by, after_followed};
 ghost use Rattle.replay_explicit.specs.Collected.{output_in, after_delta, after_cumulative, after_collected};
 
 use explicit_collection::{Settings, Setup};
-use refusals::Refusal;
+use numbered::Numbered;
 use replay_state::{State, after, binding, lent};
 
 // ---- every line but collections
 
-pub fn configured(s: State, reply: Result<Setup, Refusal>) -> State
-    ensures { result ≡ configured_by (said reply) s }
+pub fn configured<E: Numbered>(s: State, reply: Result<Setup, E>) -> State
+    ensures { result ≡ configured_by (said_by E.number reply) s }
 {
     match reply {
         Err(no) => after::unbegun(s, no),

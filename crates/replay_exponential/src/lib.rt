@@ -6,14 +6,14 @@
 #![tactic(auto)]
 
 ghost use Rattle.std.specs.Prelude.{◌≡◌};
-ghost use Rattle.refusals.specs.Refusals.{said};
+ghost use Rattle.numbered.specs.Numbered.{said_by};
 ghost use Rattle.replay_state.specs.Bound.{lent_stores, given_in};
 ghost use Rattle.replay_exponential.specs.Followed.{cells_in, scale_in, configured_by};
 ghost use Rattle.replay_exponential.specs.Followed.{after_configured, after_measured, after_measured_by, after_followed};
 ghost use Rattle.replay_exponential.specs.Collected.{output_in, after_delta, after_cumulative, after_collected};
 
 use exponential_collection::{Settings, Setup};
-use refusals::Refusal;
+use numbered::Numbered;
 use replay_state::{State, after, binding, lent};
 
 // ---- every line but collections
@@ -31,8 +31,8 @@ pub fn scale_of(n: u64) -> i32
     }
 }
 
-pub fn configured(s: State, reply: Result<Setup, Refusal>) -> State
-    ensures { result ≡ configured_by (said reply) s }
+pub fn configured<E: Numbered>(s: State, reply: Result<Setup, E>) -> State
+    ensures { result ≡ configured_by (said_by E.number reply) s }
 {
     match reply {
         Err(no) => after::unbegun(s, no),

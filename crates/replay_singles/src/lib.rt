@@ -6,13 +6,13 @@
 #![tactic(auto)]
 
 ghost use Rattle.std.specs.Prelude.{◌≡◌};
-ghost use Rattle.refusals.specs.Refusals.{said};
+ghost use Rattle.numbered.specs.Numbered.{said_by};
 ghost use Rattle.replay_state.specs.Bound.{lent_stores, given_in};
 ghost use Rattle.replay_singles.specs.Followed.{kind_of, values_in, configured_by};
 ghost use Rattle.replay_singles.specs.Followed.{after_configured, after_measured, after_measured_by, after_followed};
 ghost use Rattle.replay_singles.specs.Collected.{output_in, after_delta, after_cumulative, after_collected};
 
-use refusals::Refusal;
+use numbered::Numbered;
 use replay_state::{State, after, binding, lent};
 use singles::{Aggregation, Settings, Setup};
 
@@ -27,8 +27,8 @@ pub fn aggregation(s: State) -> Aggregation
 
 // ---- every line but collections
 
-fn configured(s: State, reply: Result<Setup, Refusal>) -> State
-    ensures { result ≡ configured_by (said reply) s }
+fn configured<E: Numbered>(s: State, reply: Result<Setup, E>) -> State
+    ensures { result ≡ configured_by (said_by E.number reply) s }
 {
     match reply {
         Err(no) => after::unbegun(s, no),

@@ -5,11 +5,11 @@ use Rattle.std.proofs.Math.Option.{Option, none, some}
 use Rattle.laws.specs.Pick.{pick}
 use Rattle.laws.specs.Said.{Said, refusal, success}
 use Rattle.directory.specs.declared.Directory.{Directory}
-use Rattle.refusals.specs.declared.Refusal.{Refusal}
 use Rattle.refusals.specs.declared.Refusal.TheVariants as V
+use Rattle.refusals.specs.Refusals.{number}
 use Rattle.replay_state.specs.declared.State.{State}
 use Rattle.replay_state.specs.declared.Fault.{Fault}
-use Rattle.replay_state.specs.declared.Fault.TheVariants.{Unread, Refused}
+use Rattle.replay_state.specs.declared.Fault.TheVariants.{Unread, Refused, Other}
 
 -- whether a kind's letter is that of sums, `s`, or of last values, `l`
 abbrev pub single : ℕ → Bool
@@ -23,13 +23,22 @@ whole kind = eqb kind 69 || eqb kind 88
 abbrev pub field : State → ℕ → ℕ
 field s k = get_or s.f k 0
 
--- the refusal that has a number, from 1 to 16; of any other, which no call answers, the first
-abbrev pub refusal_of : ℕ → Refusal
-refusal_of n =
-    get_or
-    (V.MaxSize ∷ V.MaxSize ∷ V.MaxScale ∷ V.Bounds ∷ V.Limit ∷ V.Attributes ∷ V.NotFinite ∷ V.NoHandle ∷ V.Disagrees ∷ V.Full ∷ V.NoRoom
-    ∷ V.Unlike ∷ V.LentShort ∷ V.NoValues ∷ V.OffGrid ∷ V.NotASheet ∷ V.SumOutside ∷ [])
-    n V.MaxSize
+-- the faults of the numbers from 0 to 16
+abbrev pub first_faults : List Fault
+first_faults =
+    Other 0 ∷ Refused V.MaxSize ∷ Refused V.MaxScale ∷ Refused V.Bounds ∷ Refused V.Limit ∷ Refused V.Attributes ∷ Refused V.NotFinite
+    ∷ Refused V.NoHandle ∷ Refused V.Disagrees ∷ Refused V.Full ∷ Refused V.NoRoom ∷ Refused V.Unlike ∷ Refused V.LentShort
+    ∷ Refused V.NoValues ∷ Refused V.OffGrid ∷ Refused V.NotASheet ∷ Refused V.SumOutside ∷ []
+
+-- of any number: 255 is that of a line that can't be read, and one that is nobody's is itself. `fault_number` gives each number back
+-- (proofs/Named.antt)
+abbrev pub fault_of : ℕ → Fault
+fault_of n = get_or first_faults n (pick (eqb n 255) Unread (Other n))
+
+abbrev pub fault_number : Fault → ℕ
+fault_number Unread = 255
+fault_number (Refused e) = number e
+fault_number (Other n) = n
 
 -- what a line comes to: accepted, or refused with a number
 abbrev pub Outcome : Type 0
@@ -38,8 +47,9 @@ Outcome = Result (Unit {0}) Fault
 abbrev pub accepted : Outcome
 accepted = Ok tt
 
+-- by a number, which is 0 where it is accepted
 abbrev pub refused : ℕ → Outcome
-refused n = Err (Refused (refusal_of n))
+refused n = pick (eqb n 0) accepted (Err (fault_of n))
 
 -- with what a call can change: what the line comes to, the map's state, the handles, the held start, how many points were listed and of which
 -- kind they are
@@ -79,9 +89,6 @@ abbrev pub unread_by : State → State
 unread_by s = answered s (Err Unread) s.told s.dir s.handles s.start s.listed s.collected
 
 -- one that is not accepted
-abbrev pub failed_by : Fault → State → State
-failed_by f s = answered s (Err f) s.told s.dir s.handles s.start s.listed s.collected
-
 abbrev pub refused_by : ℕ → State → State
 refused_by n s = answered s (refused n) s.told s.dir s.handles s.start s.listed s.collected
 

@@ -3,14 +3,14 @@ ghost use Rattle.std.specs.Prelude.{◌≡◌};
 ghost use Rattle.std.proofs.Math.Option.{some};
 ghost use Rattle.laws.specs.Said.{success};
 ghost use Rattle.bindings.specs.Calls as bindings-calls;
-ghost use Rattle.refusals.specs.Refusals.{number, said};
-ghost use Rattle.replay_state.specs.After.{answered, accepted, unread_by, failed_by, accepted_in, not_begun, newly_begun, done_by, collected_by};
+ghost use Rattle.numbered.specs.Numbered.{said_by};
+ghost use Rattle.replay_state.specs.After.{answered, accepted, unread_by, refused_by, accepted_in, not_begun, newly_begun, done_by, collected_by};
 
 use crate::{Fault, State};
 use bindings::Reply;
 use clock::Clock;
 use directory::Directory;
-use refusals::Refusal;
+use numbered::Numbered;
 
 // A line that can't be read.
 pub fn unread(s: State) -> State
@@ -21,12 +21,13 @@ pub fn unread(s: State) -> State
     next
 }
 
-// A line that is not accepted: its call is refused, or it can't be read.
-pub fn refused(s: State, fault: Fault) -> State
-    ensures { result ≡ failed_by fault s }
+// A line that is not accepted, by a number: its call is refused, or, with that of Fault::Unread, it can't be read.
+pub fn refused<E: Numbered>(s: State, no: E) -> State
+    ensures { result ≡ refused_by (E.number no) s }
 {
+    let no = no.number();
     let mut next = s;
-    next.no = Err(fault);
+    next.no = crate::outcome(no);
     next
 }
 
@@ -44,11 +45,11 @@ fn accepted(s: State, dir: Directory, told: u64) -> State
 // ---- configuring
 
 // After an `n` that is refused: nothing waits.
-pub fn unbegun(s: State, no: Refusal) -> State
-    ensures { result ≡ not_begun (number no) s }
+pub fn unbegun<E: Numbered>(s: State, no: E) -> State
+    ensures { result ≡ not_begun (E.number no) s }
 {
     let mut next = s;
-    next.no = Err(Fault::Refused(no));
+    next.no = crate::outcome(no.number());
     next.next_bounds = 0;
     next.next_filtered = false;
     next.next_keys = 0;
@@ -94,13 +95,13 @@ fn bound(s: State, dir: Directory, birth: u64) -> State
     next
 }
 
-pub fn done(s: State, reply: Reply) -> State
-    ensures { result ≡ done_by (bindings-calls.said reply.answer) reply.dir s }
+pub fn done<E: Numbered>(s: State, reply: Reply<E>) -> State
+    ensures { result ≡ done_by (bindings-calls.said_by E.number reply.answer) reply.dir s }
 {
     let answer = reply.answer;
     let dir = reply.dir;
     match answer {
-        Err(no) => refused(s, Fault::Refused(no)),
+        Err(no) => refused(s, no),
         Ok(handle) => match handle {
             None => accepted(s, dir, 0),
             Some(birth) => bound(s, dir, birth),
@@ -136,11 +137,11 @@ fn turned(s: State, dir: Directory, many: usize) -> State
     listed(s, dir, many, clock::at_cumulative(held), s.start)
 }
 
-pub fn collected(s: State, dir: Directory, answer: Result<usize, Refusal>) -> State
-    ensures { result ≡ collected_by (said answer) dir s }
+pub fn collected<E: Numbered>(s: State, dir: Directory, answer: Result<usize, E>) -> State
+    ensures { result ≡ collected_by (said_by E.number answer) dir s }
 {
     match answer {
-        Err(no) => refused(s, Fault::Refused(no)),
+        Err(no) => refused(s, no),
         Ok(many) => turned(s, dir, many),
     }
 }

@@ -2,9 +2,10 @@
 #![tactic(auto)]
 
 ghost use Rattle.std.specs.Prelude.{◌≡◌, min, ◌%◌};
-ghost use Rattle.replay_state.specs.After.{single, whole};
+ghost use Rattle.replay_state.specs.After.{single, whole, fault_of, fault_number, refused};
 
 use directory::Directory;
+use numbered::Numbered;
 use refusals::Refusal;
 
 pub mod after;
@@ -53,11 +54,61 @@ pub struct State {
     pub collected: u8,
 }
 
-// Why a line is not accepted: it can't be read, or its call is refused.
+// Why a line is not accepted: it can't be read, or its call is refused. A state says any number that it is given: so there is a case for
+// those that no refusal of document 01 has. `numbered` makes it of 0 and of 17 to 254 alone.
 #[derive(Clone, Copy)]
 pub enum Fault {
     Unread,
     Refused(Refusal),
+    Other(u8),
+}
+
+// That of a line which can't be read, and no refusal's.
+const UNREAD: u8 = 255;
+
+impl Fault {
+    // The fault that has a number.
+    pub fn numbered(no: u8) -> Fault
+        ensures value { result ≡ fault_of no }
+        ensures kept { fault_number result ≡ no }
+    {
+        if no == UNREAD {
+            return Fault::Unread;
+        }
+        if no == 0 || no > 16 {
+            return Fault::Other(no);
+        }
+        Fault::Refused(Refusal::numbered(no))
+    }
+
+    // Its number.
+    pub fn number(self) -> u8
+        ensures { result ≡ fault_number self }
+    {
+        match self {
+            Fault::Unread => UNREAD,
+            Fault::Refused(no) => no.number(),
+            Fault::Other(no) => no,
+        }
+    }
+}
+
+impl Numbered for Fault {
+    ghost number = { fault_number };
+
+    fn number(self) -> u8 {
+        self.number()
+    }
+}
+
+// What a line comes to by a number, which is 0 where it is accepted.
+pub fn outcome(no: u8) -> Result<(), Fault>
+    ensures { result ≡ refused no }
+{
+    if no == 0 {
+        return Ok(());
+    }
+    Err(Fault::numbered(no))
 }
 
 // Before any line of a script.

@@ -1,5 +1,5 @@
 -- What bars a recording before the directory is read, case by case; and the seating that is left. Assumes nothing.
-use Rattle.std.specs.Prelude.{Result, Ok, Err, is_err}
+use Rattle.std.specs.Prelude.{◌≢◌, Result, Ok, Err, is_err}
 use Prim.Native.Nat.{ℕ, ◌+◌, ◌≤◌, ◌<◌}
 use mathlib.Core.Path.{◌≡◌, refl, ap, sym, ◌∙◌}
 use mathlib.Core.Bool.{Bool, true, false, ◌&&◌}
@@ -10,9 +10,7 @@ use lib.ListN.{length}
 use borrow.Author.Tests.{le-leb, lt-leb, leb-true, eq-eqb, ne_eqb, eqb-true, eqb-false}
 use Rattle.laws.specs.Pick.{pick}
 use Rattle.laws.proofs.Cases.{true-not-false}
-use Rattle.refusals.specs.Refusals.{number, code}
-use Rattle.refusals.specs.declared.Refusal.{Refusal}
-use Rattle.refusals.proofs.Numbers.{number-nonzero}
+use Rattle.numbered.specs.Numbered.{code_by}
 use Rattle.sets.specs.Sorted.{most_attributes}
 use Rattle.directory.specs.View.{Stores}
 use Rattle.directory.specs.Calls.{stores_suffice}
@@ -35,12 +33,12 @@ module _ (a b : Bool) where
 
 -- ---- a call that refuses nothing has the number 0
 
-module _ {A : Type 0} where
-  pub unset-refused : (r : Result A Refusal) → is_err r ≡ true → eqb (code r) 0 ≡ false
-  unset-refused (Ok a) e = true-not-false (sym e)
-  unset-refused (Err x) e = ne_eqb (number x) 0 (number-nonzero x)
+module _ {A E : Type 0} (number_of : E → ℕ) where
+  pub unset-refused : ((x : E) → number_of x ≢ 0) → (r : Result A E) → is_err r ≡ true → eqb (code_by number_of r) 0 ≡ false
+  unset-refused f (Ok a) e = true-not-false (sym e)
+  unset-refused f (Err x) e = ne_eqb (number_of x) 0 (f x)
 
-  pub unset-fine : (r : Result A Refusal) → is_err r ≡ false → eqb (code r) 0 ≡ true
+  pub unset-fine : (r : Result A E) → is_err r ≡ false → eqb (code_by number_of r) 0 ≡ true
   unset-fine (Ok a) e = refl
   unset-fine (Err x) e = true-not-false e
 

@@ -2,18 +2,20 @@
 ghost use Rattle.std.specs.Prelude.{◌≡◌, ◌&&◌, eqb};
 ghost use Rattle.seats.specs.Seats.{barred_by};
 ghost use Rattle.refusals.specs.Refusals.{code};
+ghost use Rattle.numbered.specs.Numbered.{code_by};
 
+use numbered::Reason;
 use refusals::Refusal;
 
 // The first refusal: 12, 6, 5, and 8 by the settings and by the rest of the configuration.
-pub fn barred(
+pub fn barred<E: Reason>(
     lent: bool,
     value: bool,
     attributes: usize,
-    unset: Result<(), Refusal>,
+    unset: Result<(), E>,
     accepted: bool,
 ) -> Result<(), Refusal>
-    ensures { code result ≡ barred_by lent value attributes (eqb (code unset) 0 && accepted) }
+    ensures { code result ≡ barred_by lent value attributes (eqb (code_by E.number unset) 0 && accepted) }
 {
     if !lent {
         return Err(Refusal::LentShort);

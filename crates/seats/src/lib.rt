@@ -14,8 +14,9 @@ ghost use Rattle.seats.specs.Seats.{unless_barred, marked, committed};
 ghost use Rattle.seats.specs.Inner.{barred_at, row_unless_barred, Sure, Fits};
 ghost use Rattle.directory.specs.View.{stores, agreesb};
 ghost use Rattle.directory.specs.Calls.{kept, most_sets, accepts};
-ghost use Rattle.refusals.specs.Refusals.{code};
+ghost use Rattle.numbered.specs.Numbered.{code_by};
 
+use numbered::Reason;
 use refusals::Refusal;
 
 // Where a recording goes. slot: the slot that it goes to; updated: whether that slot holds a series; target: what the directory is to
@@ -128,10 +129,10 @@ fn seat_by_in(
 
 // Where a recording with attributes goes, and their set's row; or the refusal: 12, 6, 5, 8, 9. Of the kind: how many slots
 // its cells have room for, whether it takes the value, and how configuring refuses its settings, if it does.
-pub fn seat(
+pub fn seat<E: Reason>(
     cells: usize,
     value: bool,
-    unset: Result<(), Refusal>,
+    unset: Result<(), E>,
     limit: u64,
     d: directory::Directory,
     sets: &[[u64; 9]],
@@ -142,11 +143,11 @@ pub fn seat(
     filter: &[u32],
     row: &mut [u64; 9],
 ) -> Result<Seated, Refusal>
-    ensures value { seating result ≡ unless_barred (barred_at cells value (code unset) limit (stores sets.now entries.now order.now)
+    ensures value { seating result ≡ unless_barred (barred_at cells value (code_by E.number unset) limit (stores sets.now entries.now order.now)
         (length (given attrs.now)) (accepts limit (filter_of present filter.now)))
         (seated limit d (stores sets.now entries.now order.now)
         (row_of (canonical (filter_of present filter.now) (given attrs.now)))) }
-    ensures row_after { row.new ≡ row_unless_barred (barred_at cells value (code unset) limit (stores sets.now entries.now order.now)
+    ensures row_after { row.new ≡ row_unless_barred (barred_at cells value (code_by E.number unset) limit (stores sets.now entries.now order.now)
         (length (given attrs.now)) (accepts limit (filter_of present filter.now)))
         (row_of (canonical (filter_of present filter.now) (given attrs.now))) row.old }
 {
@@ -158,10 +159,10 @@ pub fn seat(
 }
 
 // Where a recording by a handle goes; or the refusal: 12, 6, 8, 7. The kind's answers are those of `seat`.
-pub fn seat_by(
+pub fn seat_by<E: Reason>(
     cells: usize,
     value: bool,
-    unset: Result<(), Refusal>,
+    unset: Result<(), E>,
     limit: u64,
     d: directory::Directory,
     sets: &[[u64; 9]],
@@ -169,7 +170,7 @@ pub fn seat_by(
     order: &[u32],
     h: u64,
 ) -> Result<Seated, Refusal>
-    ensures { seating result ≡ unless_barred (barred_at cells value (code unset) limit (stores sets.now entries.now order.now) 0 (leb limit most_sets))
+    ensures { seating result ≡ unless_barred (barred_at cells value (code_by E.number unset) limit (stores sets.now entries.now order.now) 0 (leb limit most_sets))
         (seated_by limit d (stores sets.now entries.now order.now) h) }
 {
     let lent = room::suffices(limit, sets.len(), entries.len(), order.len(), cells);
@@ -198,7 +199,7 @@ fn seat_agreed(
     ensures row_after { row.new ≡ row_unless_barred (barred_by true value (length (given attrs.now)) true)
         (row_of (canonical (filter_of present filter.now) (given attrs.now))) row.old }
 {
-    first::barred(true, value, attrs.len(), Ok(()), true)?;
+    first::barred(true, value, attrs.len(), Ok::<(), Refusal>(()), true)?;
     sets::canon::sort_into(attrs, present, filter, row);
     seat_right(limit, d, sets, entries, order, row)
 }
@@ -217,17 +218,17 @@ fn seat_by_agreed(
         × (agreesb limit d (stores sets.now entries.now order.now) ≡ true) }
     ensures { seating result ≡ unless_barred (barred_by true value 0 true) (seated_by limit d (stores sets.now entries.now order.now) h) }
 {
-    first::barred(true, value, 0, Ok(()), true)?;
+    first::barred(true, value, 0, Ok::<(), Refusal>(()), true)?;
     let found = directory::find::by_birth(d, entries, order, h);
     found_seat(entries, found)
 }
 
 // `seat`, where a caller may know already that 12 and 8 do not come up: what is known is not asked again.
-pub fn seat_if(
+pub fn seat_if<E: Reason>(
     known: bool,
     cells: usize,
     value: bool,
-    unset: Result<(), Refusal>,
+    unset: Result<(), E>,
     limit: u64,
     d: directory::Directory,
     sets: &[[u64; 9]],
@@ -238,12 +239,12 @@ pub fn seat_if(
     filter: &[u32],
     row: &mut [u64; 9],
 ) -> Result<Seated, Refusal>
-    requires { known ≡ true → Sure cells (code unset) limit d (stores sets.now entries.now order.now) (accepts limit (filter_of present filter.now)) }
-    ensures value { seating result ≡ unless_barred (barred_at cells value (code unset) limit (stores sets.now entries.now order.now)
+    requires { known ≡ true → Sure cells (code_by E.number unset) limit d (stores sets.now entries.now order.now) (accepts limit (filter_of present filter.now)) }
+    ensures value { seating result ≡ unless_barred (barred_at cells value (code_by E.number unset) limit (stores sets.now entries.now order.now)
         (length (given attrs.now)) (accepts limit (filter_of present filter.now)))
         (seated limit d (stores sets.now entries.now order.now)
         (row_of (canonical (filter_of present filter.now) (given attrs.now)))) }
-    ensures row_after { row.new ≡ row_unless_barred (barred_at cells value (code unset) limit (stores sets.now entries.now order.now)
+    ensures row_after { row.new ≡ row_unless_barred (barred_at cells value (code_by E.number unset) limit (stores sets.now entries.now order.now)
         (length (given attrs.now)) (accepts limit (filter_of present filter.now)))
         (row_of (canonical (filter_of present filter.now) (given attrs.now))) row.old }
 {
@@ -258,11 +259,11 @@ pub fn seat_if(
 }
 
 // `seat_by`, likewise.
-pub fn seat_by_if(
+pub fn seat_by_if<E: Reason>(
     known: bool,
     cells: usize,
     value: bool,
-    unset: Result<(), Refusal>,
+    unset: Result<(), E>,
     limit: u64,
     d: directory::Directory,
     sets: &[[u64; 9]],
@@ -270,8 +271,8 @@ pub fn seat_by_if(
     order: &[u32],
     h: u64,
 ) -> Result<Seated, Refusal>
-    requires { known ≡ true → Sure cells (code unset) limit d (stores sets.now entries.now order.now) (leb limit most_sets) }
-    ensures { seating result ≡ unless_barred (barred_at cells value (code unset) limit (stores sets.now entries.now order.now) 0 (leb limit most_sets))
+    requires { known ≡ true → Sure cells (code_by E.number unset) limit d (stores sets.now entries.now order.now) (leb limit most_sets) }
+    ensures { seating result ≡ unless_barred (barred_at cells value (code_by E.number unset) limit (stores sets.now entries.now order.now) 0 (leb limit most_sets))
         (seated_by limit d (stores sets.now entries.now order.now) h) }
 {
     if known {

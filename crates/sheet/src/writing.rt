@@ -1,20 +1,19 @@
 // The sheet of a list that was collected, as text: `s RECORDS`, and a line for each record.
 ghost use Rattle.std.specs.Prelude.{◌≡◌, take};
 ghost use Rattle.lines.specs.Gathered.{waiting, ◌behind◌};
-ghost use Rattle.refusals.specs.Refusals.{number as refusal_number};
 ghost use Rattle.pooling.specs.Lists.{source};
 ghost use Rattle.sheet_writing.specs.Writing.{writing};
 ghost use Rattle.sheet.specs.Shown.{refusal_line, sheet_lines, wrote, wrote_by};
 
 use crate::state::{Bytes, ListedBounds, ListedCounts, ListedSets, ListedWords};
 use lines::{Block, output};
-use refusals::Refusal;
+use numbered::Numbered;
 use sheets::Header;
 use std::io::Stdout;
 
 // `! N` for a refusal, behind n bytes of text; how many there are then.
-pub fn refusal(out: &Stdout, text: &mut Block, n: usize, no: Refusal) -> usize
-    ensures { waiting result text.new ≡ refusal_line (refusal_number no) behind waiting n text.old }
+pub fn refusal<E: Numbered>(out: &Stdout, text: &mut Block, n: usize, no: E) -> usize
+    ensures { waiting result text.new ≡ refusal_line (E.number no) behind waiting n text.old }
 {
     let a = output::byte(out, text, n, b'!');
     let b = printing::number(out, text, a, no.number() as u64);

@@ -17,6 +17,7 @@ ghost use Rattle.singles.specs.Stores.{single_store};
 use batches::Batch;
 use bindings::Reply;
 use directory::Directory;
+use refusals::Refusal;
 use singles::Aggregation;
 use value_map::first;
 
@@ -56,7 +57,7 @@ fn all(
         known,
         slots,
         value,
-        Ok(()),
+        Ok::<(), Refusal>(()),
         limit,
         d,
         sets,
@@ -122,7 +123,7 @@ fn all_by(
         known,
         slots,
         value,
-        Ok(()),
+        Ok::<(), Refusal>(()),
         limit,
         d,
         sets,

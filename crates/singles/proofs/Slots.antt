@@ -12,7 +12,8 @@ use Rattle.laws.proofs.Bools.{pick_true, pick-false}
 use Rattle.floats.specs.Answers.{bits_of}
 use Rattle.listing.specs.Listed.{Output, over_at}
 use Rattle.listing.specs.Inner.{Put, left}
-use Rattle.collecting.specs.Slots.{Survey, unsound, one_more, surveyed_at, laid_at, put_slot}
+use Rattle.collecting.specs.Slots.{unsound, one_more, surveyed_at, laid_at, put_slot}
+use Rattle.collecting.specs.declared.Survey.{Survey}
 use Rattle.singles.specs.declared.Aggregation.{Aggregation}
 use Rattle.singles.specs.declared.Aggregation.TheVariants.{Sum}
 use Rattle.singles.specs.Kinds.{holds}

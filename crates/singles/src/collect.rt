@@ -10,7 +10,7 @@ ghost use Rattle.singles.specs.Stores.{single_store};
 ghost use Rattle.singles.specs.Points.{output, single_lister};
 
 use crate::Settings;
-use collecting::Reply;
+use collecting::{Reply, Survey};
 use directory::Directory;
 use refusals::Refusal;
 
@@ -34,7 +34,16 @@ fn number(
 {
     let limit = s.limit;
     let room = directory::suffices(limit, values.len());
-    collecting::barred(known, room, Ok(()), limit, d, sets, entries, order)?;
+    collecting::barred(
+        known,
+        room,
+        Ok::<(), Refusal>(()),
+        limit,
+        d,
+        sets,
+        entries,
+        order,
+    )?;
     let aggregation = s.aggregation;
     let found = crate::walk::survey(
         known,
@@ -45,7 +54,7 @@ fn number(
         order,
         values,
     );
-    collecting::number_of(found, out_sets.len(), out_values.len(), 0, 0)
+    collecting::number_of(Survey::found(found), out_sets.len(), out_values.len(), 0, 0)
 }
 
 // Delta collection: lists the updated entries and resets them; removes those that were neither updated nor bound, but for overflow.

@@ -57,7 +57,7 @@ pub fn measure(
     let seat = seats::seat(
         slots,
         value,
-        Ok(()),
+        Ok::<(), Refusal>(()),
         limit,
         d,
         sets,
@@ -91,7 +91,17 @@ pub fn measure_by(
     let slots = values.len();
     let value = first::takes(v);
     let row: [u64; 9] = [0; 9];
-    let seat = seats::seat_by(slots, value, Ok(()), limit, d, sets, entries, order, h);
+    let seat = seats::seat_by(
+        slots,
+        value,
+        Ok::<(), Refusal>(()),
+        limit,
+        d,
+        sets,
+        entries,
+        order,
+        h,
+    );
     let done = take(aggregation, seat, values, v);
     first::finish(done, d, sets, entries, order, &row)
 }

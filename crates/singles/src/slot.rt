@@ -4,7 +4,7 @@ ghost use Rattle.refusals.specs.Refusals.{code};
 ghost use Rattle.rows.specs.Recording.{after};
 ghost use Rattle.batches.specs.Inner.{Known};
 ghost use Rattle.listing.specs.Inner.{left};
-ghost use Rattle.collecting.specs.Slots.{Few, More, sound_of, survey_of, surveyed_at, put_slot};
+ghost use Rattle.collecting.specs.Slots.{Few, More, surveyed_at, put_slot};
 ghost use Rattle.singles.specs.Kinds.{step, holds};
 ghost use Rattle.singles.specs.Stores.{held_at, recorded_at, single_store};
 ghost use Rattle.singles.specs.Points.{output, single_lister};
@@ -12,7 +12,7 @@ ghost use Rattle.singles.specs.Inner.{place};
 ghost use Rattle.singles.specs.declared.Aggregation.TheVariants.{Sum};
 
 use crate::Aggregation;
-use collecting::Sums;
+use collecting::Survey;
 use refusals::Refusal;
 
 // What a value makes of what is held.
@@ -77,32 +77,38 @@ fn is_sound(known: bool, aggregation: Aggregation, x: usize, updated: bool, valu
     holds(aggregation, held_at(x, updated, values))
 }
 
-// The survey with slot x more, which was updated or not and is due or not; none where its series disagrees.
+// The survey with slot x more, which was updated or not and is due or not.
 pub fn survey(
     known: bool,
     aggregation: Aggregation,
-    s: Sums,
+    s: Survey,
     x: usize,
     updated: bool,
     due: bool,
     values: &[f64],
-) -> Option<Sums>
+) -> Survey
     requires x_in_bounds { x < length values.now }
-    requires few { Few (sound_of s) × Known (single_store aggregation) tt known x updated values.now }
-    ensures value { survey_of result ≡ surveyed_at (single_lister aggregation) tt updated due values.now (sound_of s) x }
-    ensures more { More (sound_of s) (survey_of result) }
+    requires few { Few s × Known (single_store aggregation) tt known x updated values.now }
+    ensures value { result ≡ surveyed_at (single_lister aggregation) tt updated due values.now s x }
+    ensures more { More s result }
 {
     if !is_sound(known, aggregation, x, updated, values) {
-        return None;
+        return Survey {
+            sound: false,
+            points: 0,
+            pos: 0,
+            neg: 0,
+        };
     }
     if !due {
-        return Some(s);
+        return s;
     }
-    Some(Sums {
+    Survey {
+        sound: true,
         points: s.points + 1,
         pos: s.pos,
         neg: s.neg,
-    })
+    }
 }
 
 // Puts the point of slot x at a place of the output, if it is due; the next place. What is put is the same for every aggregation.

@@ -8,7 +8,7 @@ ghost use Rattle.singles.specs.Inner.{place};
 ghost use Rattle.singles.specs.declared.Aggregation.TheVariants.{Sum};
 
 use crate::Aggregation;
-use collecting::Sums;
+use collecting::{Sums, Survey};
 
 // What the slots are found to be; none where a series that is held disagrees.
 pub fn survey(
@@ -34,7 +34,9 @@ pub fn survey(
         let x = collecting::slot_at(order, i);
         let updated = directory::is_updated(entries, x);
         let due = collecting::is_due(cumulative, updated, x);
-        found = crate::slot::survey(known, aggregation, found, x, updated, due, values)?;
+        let so_far = Survey::of(found);
+        let next = crate::slot::survey(known, aggregation, so_far, x, updated, due, values);
+        found = next.sums()?;
     }
     Some(found)
 }

@@ -12,6 +12,7 @@ use Rattle.directory.specs.declared.Directory.{Directory}
 use Rattle.bindings.specs.Calls as Bindings
 use Rattle.bindings.specs.Calls.{said, fresh}
 use Rattle.bindings.specs.declared.Reply.{Reply}
+use Rattle.refusals.specs.declared.Refusal.{Refusal}
 use Rattle.seats.specs.Seats.{seated, seated_by, barred_by, unless_barred, committed, Seating}
 use Rattle.value_map.specs.Store.{Store}
 
@@ -29,7 +30,7 @@ pub record Outcome (Cells : Type 0) : Type 0 where
 abbrev pub held : {Cells : Type 0} → Directory → Stores → Cells → Held Cells
 held d s c = record { kept = kept d s; cells = c }
 
-abbrev pub gave : {Cells : Type 0} → Reply → Stores → Cells → Outcome Cells
+abbrev pub gave : {Cells : Type 0} → Reply Refusal → Stores → Cells → Outcome Cells
 gave r s c = record { answer = said r.answer; held = held r.dir s c }
 
 -- "Every refusal changes nothing."

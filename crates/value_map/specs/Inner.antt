@@ -4,7 +4,6 @@ use Rattle.std.specs.Prelude.{ℕ, ◌≡◌, Bool, true, ◌&&◌, List, eqb, l
 use Rattle.std.proofs.Math.Option.{none}
 use Rattle.laws.specs.Pick.{pick}
 use Rattle.laws.specs.Said.{success}
-use Rattle.refusals.specs.declared.Refusal.{Refusal}
 use Rattle.tally.specs.Kind.{Kind}
 use Rattle.directory.specs.View.{Stores}
 use Rattle.directory.specs.declared.Directory.{Directory}
@@ -15,7 +14,7 @@ use Rattle.seats.specs.Seats.{committed}
 use Rattle.value_map.specs.Store.{Store, Recording}
 
 -- what is to be written, as a seating has it: nothing where the recording was refused
-abbrev pub target_in : Result Target Refusal → Target
+abbrev pub target_in : {E : Type 0} → Result Target E → Target
 target_in (Ok t) = t
 target_in (Err e) = Disagrees
 

@@ -145,7 +145,7 @@ pub fn measure(
     let seat = seats::seat(
         slots,
         value,
-        Ok(()),
+        Ok::<(), Refusal>(()),
         limit,
         d,
         sets,
@@ -182,7 +182,17 @@ pub fn measure_by(
     let slots = slots_of(bounds, totals.len(), extremes.len(), counts.len());
     let value = crate::first::takes(v);
     let row: [u64; 9] = [0; 9];
-    let seat = seats::seat_by(slots, value, Ok(()), limit, d, sets, entries, order, h);
+    let seat = seats::seat_by(
+        slots,
+        value,
+        Ok::<(), Refusal>(()),
+        limit,
+        d,
+        sets,
+        entries,
+        order,
+        h,
+    );
     let done = take(bounds, seat, totals, extremes, counts, v);
     crate::first::finish(done, d, sets, entries, order, &row)
 }

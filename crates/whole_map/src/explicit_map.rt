@@ -128,7 +128,7 @@ pub fn measure(
     let seat = seats::seat(
         slots,
         value,
-        Ok(()),
+        Ok::<(), Refusal>(()),
         limit,
         d,
         sets,
@@ -166,7 +166,17 @@ pub fn measure_by(
     let slots = slots_of(bounds, totals.len(), extremes.len(), counts.len());
     let value = takes(v);
     let row: [u64; 9] = [0; 9];
-    let seat = seats::seat_by(slots, value, Ok(()), limit, d, sets, entries, order, h);
+    let seat = seats::seat_by(
+        slots,
+        value,
+        Ok::<(), Refusal>(()),
+        limit,
+        d,
+        sets,
+        entries,
+        order,
+        h,
+    );
     let done = take(bounds, sums, seat, totals, extremes, counts, v);
     first::finish(done, d, sets, entries, order, &row)
 }

@@ -7,8 +7,10 @@ ghost use Rattle.laws.specs.Pick.{pick};
 ghost use Rattle.points.specs.Shadow.{shadow_of};
 ghost use Rattle.point.specs.Handing as P;
 ghost use Rattle.whole_point.specs.Handing.{stored, shadow_point, exponential_point, explicit_point, merged_of, outcome, merging, beside_number, mixed_number, alone_number};
-ghost use Rattle.refusals.specs.Refusals.{number, code};
+ghost use Rattle.refusals.specs.Refusals.{number};
+ghost use Rattle.numbered.specs.Numbered.{code_by};
 
+use numbered::Numbered;
 use point::Figures;
 use refusals::Refusal;
 
@@ -151,15 +153,12 @@ pub fn merge(
 // ---- beside f64
 
 // What refuses an i64 point beside an f64 point, of what refuses its shadow: 1 and 8 come first, else it is 11.
-pub fn beside(no: Result<(), Refusal>) -> Refusal
-    ensures { number result ≡ beside_number (code no) }
+pub fn beside<E: Numbered>(no: Result<(), E>) -> Refusal
+    ensures { number result ≡ beside_number (code_by E.number no) }
 {
-    let Err(e) = no else {
-        return Refusal::Unlike;
-    };
-    match e {
-        Refusal::MaxSize => Refusal::MaxSize,
-        Refusal::Disagrees => Refusal::Disagrees,
+    match numbered::code(no) {
+        1 => Refusal::MaxSize,
+        8 => Refusal::Disagrees,
         _ => Refusal::Unlike,
     }
 }

@@ -5,7 +5,8 @@ use mathlib.Core.Bool.{true}
 use native.Mathlib.Omega.{arith}
 use Rattle.explicit.proofs.Cases.{count-few}
 use Rattle.explicit_slots.specs.Cells.{Cells, cells}
-use Rattle.collecting.specs.Slots.{Survey, sound_of, More}
+use Rattle.collecting.specs.Slots.{More}
+use Rattle.collecting.specs.declared.Survey.{Survey}
 use Rattle.explicit_collection.specs.Points.{explicit_lister}
 use Rattle.explicit_collection.proofs.Slots.{counts-long, survey-none, survey-idle, survey-due}
 use Rattle.explicit_collection.proofs.slot.survey.Goals as goal
@@ -16,13 +17,13 @@ sound_at-requires c = record { room = c.requires.bounds_value.1; known = c.requi
 pub returns-then-not-sound_at : goal.returns-then-not-sound_at
 returns-then-not-sound_at c =
     let lent : Cells = let a = c.args in cells a.totals.now a.extremes.now a.counts.now in
-    let a = c.args in record { value = survey-none (explicit_lister a.bounds.now) (true, true) a.updated a.due (lent) (sound_of a.s) a.x c.sound_at.result c.sound_at.ensures c.if-not-sound_at.true; more = (omega arith, omega arith, omega arith) }
+    let a = c.args in record { value = survey-none (explicit_lister a.bounds.now) (true, true) a.updated a.due (lent) a.s a.x c.sound_at.result c.sound_at.ensures c.if-not-sound_at.true; more = (omega arith, omega arith, omega arith) }
 
 pub returns-then-not-due : goal.returns-then-not-due
 returns-then-not-due c =
     let lent : Cells = let a = c.args in cells a.totals.now a.extremes.now a.counts.now in
     let a = c.args in record {
-      value = survey-idle (explicit_lister a.bounds.now) (true, true) a.updated a.due (lent) (sound_of a.s) a.x c.sound_at.result c.sound_at.ensures c.if-not-sound_at.false
+      value = survey-idle (explicit_lister a.bounds.now) (true, true) a.updated a.due (lent) a.s a.x c.sound_at.result c.sound_at.ensures c.if-not-sound_at.false
           c.if-not-due.true;
       more = (omega arith, omega arith, omega arith);
     }
@@ -38,8 +39,8 @@ returns c =
     let few : c.bucket_count.result ≤ 160 = omega (arith, c.bucket_count.ensures, count-few c.args.bounds.now c.requires.bounds_value.0) in
     let a = c.args in record {
       value = c.one_more.ensures
-          ∙ survey-due (explicit_lister a.bounds.now) (true, true) a.updated a.due (lent) (sound_of a.s) a.x c.sound_at.result c.sound_at.ensures c.if-not-sound_at.false
+          ∙ survey-due (explicit_lister a.bounds.now) (true, true) a.updated a.due (lent) a.s a.x c.sound_at.result c.sound_at.ensures c.if-not-sound_at.false
           c.if-not-due.false c.bucket_count.result
           (c.bucket_count.ensures ∙ sym (counts-long a.bounds.now a.counts.now a.x c.requires.bounds_value.1.counts a.updated)) refl;
-      more = subst (λ (r : Survey). More (sound_of a.s) r) (sym c.one_more.ensures) (omega arith, omega (arith, few), omega arith);
+      more = subst (λ (r : Survey). More a.s r) (sym c.one_more.ensures) (omega arith, omega (arith, few), omega arith);
     }

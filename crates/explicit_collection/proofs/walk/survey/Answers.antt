@@ -1,6 +1,6 @@
 -- `explicit_collection::walk::survey` meets its contract. Assumes nothing.
 use Prim.Native.Nat.{◌≤◌}
-use mathlib.Core.Path.{refl, ap, ◌∙◌}
+use mathlib.Core.Path.{sym, ap, subst, ◌∙◌}
 use mathlib.Core.Bool.{Bool, true}
 use mathlib.Core.List.{[]}
 use native.Mathlib.Omega.{arith}
@@ -9,9 +9,9 @@ use Rattle.value_map.specs.Calls.{Held}
 use Rattle.value_map.specs.Explicit.{explicit_store}
 use Rattle.value_map.proofs.ExplicitOwes.{owed}
 use Rattle.collecting.specs.Lister.{Lister}
-use Rattle.collecting.specs.Slots.{unsound, sound_of, survey_of, walked}
+use Rattle.collecting.specs.Slots.{sound_of, survey_of, Few, walked}
 use Rattle.collecting.proofs.Turns.{Seen}
-use Rattle.collecting.proofs.Loops.{within, found-used, survey-start, survey-few, survey-known, survey-next, survey-stop, survey-end}
+use Rattle.collecting.proofs.Loops.{within, found-used, survey-start, survey-few, survey-known, sums-next, sums-stop, survey-end}
 use Rattle.explicit_collection.specs.Points.{explicit_lister}
 use Rattle.explicit_collection.proofs.walk.survey.Goals as goal
 
@@ -33,8 +33,8 @@ is_updated-updated-requires c =
     let in_use : c.slot_at-x.result ≤ c.args.used = found-used (explicit_store c.args.bounds.now) map-c c.requires.walk c.loop-i.i c.slot_at-x.result (within _ _ c.loop-i-test.true) c.slot_at-x.ensures in
     c.requires.walk.entries c.slot_at-x.result (in_use)
 
-pub survey-requires : goal.survey-requires
-survey-requires c =
+pub survey-next-requires : goal.survey-next-requires
+survey-next-requires c =
     let L-c : Lister (explicit_store c.args.bounds.now) = explicit_lister c.args.bounds.now in
     let map-c : Held Cells = let a = c.args in walked a.used [] a.entries.now a.order.now (cells a.totals.now a.extremes.now a.counts.now) in
     let in_use : c.slot_at-x.result ≤ c.args.used = found-used (explicit_store c.args.bounds.now) map-c c.requires.walk c.loop-i.i c.slot_at-x.result (within _ _ c.loop-i-test.true) c.slot_at-x.ensures in
@@ -49,7 +49,8 @@ survey-requires c =
     let l = c.loop-i in record {
       bounds_value = ((owed c.args.bounds.now).valid c.requires.walk.set on, c.requires.walk.room c.slot_at-x.result (in_use));
       few = (
-        survey-few L-c on c.args.cumulative map-c c.requires.walk l.i (sound_of l.found) l.invariant (within _ _ c.loop-i-test.true),
+        subst Few (sym c.of-so_far.ensures)
+            (survey-few L-c on c.args.cumulative map-c c.requires.walk l.i (sound_of l.found) l.invariant (within _ _ c.loop-i-test.true)),
         survey-known L-c on c.args.cumulative map-c c.requires.walk c.args.known c.requires.all_known l.i _ _ _ (seen),
       );
     }
@@ -68,8 +69,8 @@ returns-in_err-found c =
     } in
     let l = c.loop-i in
     ap survey_of c.from_residual.ensures
-    ∙ survey-stop L-c on c.args.cumulative map-c l.i _ _ _ (seen)
-    (sound_of l.found) unsound l.invariant c.in_err-found.ensures.value refl
+    ∙ sums-stop L-c on c.args.cumulative map-c l.i _ _ _ (seen)
+    (sound_of l.found) c.of-so_far.result c.survey-next.result l.invariant c.of-so_far.ensures c.survey-next.ensures.value c.in_err-found.ensures.sound
 
 pub overflow_add-i-end : goal.overflow_add-i-end
 overflow_add-i-end c = omega (arith, c.requires.walk.most)
@@ -87,8 +88,9 @@ loop-i-preserved c =
       asked_is = c.is_due-due.ensures;
     } in
     let l = c.loop-i in
-    survey-next L-c on c.args.cumulative map-c l.i _ _ _ (seen)
-    (sound_of l.found) (sound_of c.in_ok-found.found) l.invariant c.in_ok-found.ensures.value refl c.in_ok-found.ensures.more
+    sums-next L-c on c.args.cumulative map-c l.i _ _ _ (seen)
+    (sound_of l.found) c.of-so_far.result c.survey-next.result l.invariant c.of-so_far.ensures c.survey-next.ensures.value
+    c.in_ok-found.found c.in_ok-found.ensures.sound c.in_ok-found.ensures.unsound c.survey-next.ensures.more
 
 pub returns : goal.returns
 returns c =

@@ -10,7 +10,6 @@ use Rattle.value_map.specs.Calls.{Held, held}
 use Rattle.whole_map.specs.Explicit.{explicit_wholes}
 use Rattle.whole_map.proofs.ExplicitOwes.{owed}
 use Rattle.listing.specs.Listed.{Output, output}
-use Rattle.collecting.specs.Slots.{survey_of}
 use Rattle.collecting.proofs.Decides.{number-first, walk_here, number-then}
 use Rattle.collecting.proofs.Sure.{unbarred, walk-known}
 use Rattle.explicit_whole_collection.specs.Points.{explicit_whole_lister}
@@ -54,6 +53,6 @@ returns c =
     number-then (explicit_whole_lister a.bounds.now a.s.sums) (owed a.bounds.now a.s.sums) a.s.extremes a.cumulative a.s.limit (map) (out)
     c.cells_suffice-room.result (code c.unset_of-unset.result) 0
     c.cells_suffice-room.ensures c.unset_of-unset.ensures c.in_ok-barred.ensures refl
-    true (λ x. refl) (survey_of c.survey-found.result) (code c.number_of.result)
-    (c.survey-found.ensures ∙ survey-counts a.bounds.now a.s.sums a.d.used a.entries.now a.order.now a.totals.now a.extremes.now a.counts.now a.cumulative)
+    true (λ x. refl) c.found.result (code c.number_of.result)
+    (c.found.ensures ∙ c.survey-found.ensures ∙ survey-counts a.bounds.now a.s.sums a.d.used a.entries.now a.order.now a.totals.now a.extremes.now a.counts.now a.cumulative)
     c.number_of.ensures

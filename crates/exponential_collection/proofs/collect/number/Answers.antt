@@ -10,7 +10,6 @@ use Rattle.value_map.specs.Calls.{Held, held}
 use Rattle.value_map.specs.Exponential.{exponential_store}
 use Rattle.value_map.proofs.ExponentialOwes.{owed}
 use Rattle.listing.specs.Listed.{Output, output}
-use Rattle.collecting.specs.Slots.{survey_of}
 use Rattle.collecting.proofs.Decides.{number-first, walk_here, number-then}
 use Rattle.collecting.proofs.Sure.{unbarred, walk-known}
 use Rattle.exponential_collection.specs.Points.{exponential_lister}
@@ -49,4 +48,4 @@ returns c =
     let a = c.args in
     number-then (exponential_lister a.s.size a.s.top) (owed a.s.size a.s.top) (a.s.extremes, a.s.sums) a.cumulative a.s.limit (map) (out)
     c.cells_suffice-room.result (code c.unset_of-unset.result) 0 c.cells_suffice-room.ensures c.unset_of-unset.ensures c.in_ok-barred.ensures refl
-    (true, true) (λ x. refl) (survey_of c.survey-found.result) (code c.number_of.result) c.survey-found.ensures c.number_of.ensures
+    (true, true) (λ x. refl) c.found.result (code c.number_of.result) (c.found.ensures ∙ c.survey-found.ensures) c.number_of.ensures

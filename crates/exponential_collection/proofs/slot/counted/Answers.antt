@@ -1,7 +1,6 @@
 -- `exponential_collection::slot::counted` meets its contract. Assumes nothing.
 use native.Mathlib.Omega.{arith}
 use lib.ListN.{get_or}
-use Rattle.collecting.specs.Slots.{sound_of}
 use Rattle.exponential_collection.proofs.Slots.{counted-held, counted-fresh}
 use Rattle.exponential_collection.proofs.slot.counted.Goals as goal
 
@@ -14,9 +13,9 @@ overflow_add-result-then-updated-2 c = omega (arith, (c.requires.f_bound c.if-up
 pub returns-then-updated : goal.returns-then-updated
 returns-then-updated c =
     let a = c.args in
-    counted-held (sound_of a.s) a.updated (get_or a.f 4 0) (get_or a.f 6 0) c.if-updated.true
+    counted-held a.s a.updated (get_or a.f 4 0) (get_or a.f 6 0) c.if-updated.true
 
 pub returns : goal.returns
 returns c =
     let a = c.args in
-    counted-fresh (sound_of a.s) a.updated (get_or a.f 4 0) (get_or a.f 6 0) c.if-updated.false
+    counted-fresh a.s a.updated (get_or a.f 4 0) (get_or a.f 6 0) c.if-updated.false

@@ -12,7 +12,6 @@ use Rattle.whole_map.specs.Exponential.{exponential_wholes}
 use Rattle.whole_map.proofs.ExponentialOwes.{owed}
 use Rattle.listing.specs.Listed.{Output, output}
 use Rattle.collecting.specs.Lister.{Lister}
-use Rattle.collecting.specs.Slots.{survey_of}
 use Rattle.collecting.proofs.Decides.{number-first, walk_here, number-then}
 use Rattle.collecting.proofs.Sure.{unbarred, walk-known}
 use Rattle.exponential_whole_collection.specs.Points.{exponential_whole_lister}
@@ -59,5 +58,5 @@ returns c =
     let a = c.args in
     number-then (L) (W) a.s.extremes a.cumulative a.s.limit (map) (out)
     c.cells_suffice-room.result (code c.unset_of-unset.result) 0 c.cells_suffice-room.ensures c.unset_of-unset.ensures c.in_ok-barred.ensures refl
-    true (λ x. refl) (survey_of c.survey-found.result) (code c.number_of.result) c.survey-found.ensures c.number_of.ensures
+    true (λ x. refl) c.found.result (code c.number_of.result) (c.found.ensures ∙ c.survey-found.ensures) c.number_of.ensures
     ∙ sums_apart a.s.size a.s.top a.s.sums a.s.extremes a.cumulative a.s.limit (map) (out)

@@ -11,7 +11,7 @@ use Rattle.directory.specs.View.{stores}
 use Rattle.value_map.specs.Calls.{Held, held}
 use Rattle.listing.specs.Listed.{Output}
 use Rattle.collecting.specs.Lister.{Lister}
-use Rattle.collecting.specs.Slots.{survey_of, surveyed_by}
+use Rattle.collecting.specs.Slots.{surveyed_by}
 use Rattle.collecting.proofs.Decides.{number-first, walk_here, number-then}
 use Rattle.collecting.proofs.Sure.{unbarred, walk-known}
 use Rattle.singles.specs.Stores.{single_store}
@@ -55,6 +55,6 @@ returns c =
     let a = c.args in
     number-then (L) (owed a.s.aggregation) tt a.cumulative a.s.limit (map) (out)
     c.suffices-room.result 0 0 c.suffices-room.ensures refl c.in_ok-barred.ensures refl
-    tt (λ x. refl) (survey_of c.survey-found.result) (code c.number_of.result) c.survey-found.ensures
+    tt (λ x. refl) c.found.result (code c.number_of.result) (c.found.ensures ∙ c.survey-found.ensures)
     (c.number_of.ensures
-    ∙ ap (λ (n : ℕ). surveyed_by (survey_of c.survey-found.result) (length a.out_sets.now) n 0 0) (sym (words_long a.out_values.now)))
+    ∙ ap (λ (n : ℕ). surveyed_by c.found.result (length a.out_sets.now) n 0 0) (sym (words_long a.out_values.now)))

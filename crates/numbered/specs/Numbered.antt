@@ -1,6 +1,6 @@
 -- BETWEEN OUR OWN CRATES: serves inner contracts and proofs; nobody needs it to believe the public calls or the theorems.
--- A Result in document 01's words, over any error that has a number: `code` and `said` of refusals/specs/Refusals, of which they are the same at
--- a Refusal (the laws `same-code`, `same-said`). Assumes nothing.
+-- A Result in document 01's words, over any error that has a number. At a Refusal they are `code` and `said` of refusals/specs/Refusals (the
+-- laws `same-code`, `same-said`). Assumes nothing.
 use Rattle.std.specs.Prelude.{ℕ, Result, Ok, Err}
 use Rattle.laws.specs.Said.{Said, refusal, success}
 

@@ -1,5 +1,5 @@
 // Errors that have a number: a Refusal, whose number is document 01's, and a number by itself, for those that no Refusal has. What hands an
-// error on, or asks no more of it than its number, takes any of them.
+// error on, or asks no more of it than its number, takes any that is Numbered; where the number 0 would be success, any that is a Reason.
 #![tactic(auto)]
 
 ghost use Rattle.std.specs.Prelude.{◌≡◌, ◌≢◌, ℕ};

@@ -1,5 +1,5 @@
--- A fault keeps its number: the fault that has a number has that number, and the fault that has a refusal's number is that refusal. What a
--- line comes to by a number keeps it too. Assumes nothing.
+-- A fault keeps its number: the fault that has a number has that number (`number-kept`), and the fault that has a refusal's number is that
+-- refusal (`named`): laws for whoever reads a state. Assumes nothing.
 use Prim.Native.Nat.{ℕ, zero, suc, ◌+◌, ◌≤◌, ◌<◌}
 use mathlib.Core.Path.{◌≡◌, refl, sym, ap, ◌∙◌}
 use mathlib.Core.Logic.{⊎_elim}
@@ -17,10 +17,9 @@ use Rattle.laws.proofs.Differences.{le_or-lt}
 use Rattle.refusals.specs.declared.Refusal.{Refusal}
 use Rattle.refusals.specs.declared.Refusal.TheVariants as V
 use Rattle.refusals.specs.Refusals.{number}
-use Rattle.numbered.specs.Numbered.{code_by}
 use Rattle.replay_state.specs.declared.Fault.{Fault}
 use Rattle.replay_state.specs.declared.Fault.TheVariants.{Unread, Refused, Other}
-use Rattle.replay_state.specs.After.{first_faults, fault_of, fault_number, Outcome, accepted, refused}
+use Rattle.replay_state.specs.After.{first_faults, fault_of, fault_number, accepted, refused}
 
 -- ---- the number of a fault that has one
 
@@ -87,13 +86,6 @@ named V.NotASheet = refl
 named V.SumOutside = refl
 
 -- ---- what a line comes to
-
-pub outcome-kept : (n : ℕ) → code_by fault_number (refused n) ≡ n
-outcome-kept n =
-    ⊎_elim
-    (λ (e : eqb n 0 ≡ true). ap (λ (o : Outcome). code_by fault_number o) (pick_true _ _ _ e) ∙ sym (eqb-true n 0 e))
-    (λ (e : eqb n 0 ≡ false). ap (λ (o : Outcome). code_by fault_number o) (pick-false _ _ _ e) ∙ number-kept n)
-    (flag (eqb n 0))
 
 pub accepts : (n : ℕ) → n ≡ 0 → refused n ≡ accepted
 accepts n e = pick_true _ _ _ (eq-eqb n 0 e)

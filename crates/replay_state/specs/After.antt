@@ -88,7 +88,7 @@ answered s n told dir handles start listed collected =
 abbrev pub unread_by : State → State
 unread_by s = answered s (Err Unread) s.told s.dir s.handles s.start s.listed s.collected
 
--- one that is not accepted
+-- one that comes to a number, which 0 accepts
 abbrev pub refused_by : ℕ → State → State
 refused_by n s = answered s (refused n) s.told s.dir s.handles s.start s.listed s.collected
 

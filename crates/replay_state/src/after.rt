@@ -21,7 +21,7 @@ pub fn unread(s: State) -> State
     next
 }
 
-// A line that is not accepted, by a number: its call is refused, or, with that of Fault::Unread, it can't be read.
+// What a line comes to by a number: its call is refused, or, with that of Fault::Unread, it can't be read. By 0 it is accepted.
 pub fn refused<E: Numbered>(s: State, no: E) -> State
     ensures { result ≡ refused_by (E.number no) s }
 {

@@ -10,6 +10,7 @@ use lib.ListN.{length}
 use lib.Ieee.{Float}
 use Rattle.std.specs.Prelude.{◌≢◌}
 use Rattle.refusals.specs.declared.Refusal.{Refusal}
+use Rattle.refusals.specs.declared.Refusal.TheVariants as V
 use Rattle.refusals.specs.Refusals.{number}
 use Rattle.refusals.proofs.Numbers.{number-nonzero}
 use Rattle.laws.specs.Pick.{pick}
@@ -204,8 +205,32 @@ module _ (size : ℕ) (x y : Stored) (us vs : List ℕ) where
 
 -- ---- BESIDE f64
 -- but for 1 and 8 it is 11
-pub beside-other : (n : ℕ) → n ≢ 1 → n ≢ 8 → 11 ≡ beside_number n
-beside-other n h k = sym (pick-false (eqb n 1) 1 _ (ne_eqb n 1 h) ∙ pick-false (eqb n 8) 8 11 (ne_eqb n 8 k))
+pub beside-else : (n : ℕ) → n ≢ 1 → n ≢ 8 → 11 ≡ beside_number n
+beside-else n h k = sym (pick-false (eqb n 1) 1 _ (ne_eqb n 1 h) ∙ pick-false (eqb n 8) 8 11 (ne_eqb n 8 k))
+
+-- so of a refusal, and where nothing is refused: two laws for other crates, which nothing here cites
+pub beside-other : (e : Refusal) → e ≢ V.MaxSize → e ≢ V.Disagrees → 11 ≡ beside_number (number e)
+unfolding pick
+beside-other V.MaxSize h k = absurd (h refl)
+beside-other V.MaxScale h k = refl
+beside-other V.Bounds h k = refl
+beside-other V.Limit h k = refl
+beside-other V.Attributes h k = refl
+beside-other V.NotFinite h k = refl
+beside-other V.NoHandle h k = refl
+beside-other V.Disagrees h k = absurd (k refl)
+beside-other V.Full h k = refl
+beside-other V.NoRoom h k = refl
+beside-other V.Unlike h k = refl
+beside-other V.LentShort h k = refl
+beside-other V.NoValues h k = refl
+beside-other V.OffGrid h k = refl
+beside-other V.NotASheet h k = refl
+beside-other V.SumOutside h k = refl
+
+pub beside-none : 11 ≡ beside_number 0
+unfolding pick
+beside-none = refl
 
 pub beside-size : 1 ≡ beside_number 1
 unfolding pick
